@@ -1,0 +1,109 @@
+-- What each call refuses, in document 01's order ("Order: the table's"), and what it answers. A lent slice stands by its length.
+use mathlib.Core.Bool.{Bool, cond}
+use mathlib.Core.List.{List, [], _∷_}
+use Prim.Native.Nat.{ℕ, _*_, _-_, _^_, _/_, _%_}
+use lib.Dec.{leb, ltb, eqb}
+use lib.ListN.{length, getD}
+use Rattle.terms.specs.Test.{any, tabulate}
+use Rattle.terms.specs.Refusal.{_when_, first}
+use Rattle.terms.specs.Tree.{preorder}
+use Rattle.terms.specs.Relation.{relationAt}
+use Rattle.terms.specs.Form.{valueAt}
+use Rattle.terms.specs.Sheet.{nodesOf, transitionsOf, wrapped}
+use Rattle.terms.specs.Check.{alphabetRefusal, automatonRefusal, treeRefusal, refusal, mostNodes}
+use Rattle.terms.specs.FormBytes.{ruleCount, startOf, ruleOffset, formRules, formTree, formRefusal}
+use Rattle.terms.specs.Count.{ownNodes, nodesBefore, sizeOf, capped}
+
+-- Form making and marking.
+
+-- how many rules a form of the sheet may take: 16 for each right-side node (01 One-hole form)
+abbrev pub rulesAsked : List ℕ → ℕ
+rulesAsked s = 16 * nodesOf s
+
+-- form making: 1 to 16, 17 (01 Refusals)
+unfoldable pub makingRefusal : List ℕ → ℕ → ℕ
+makingRefusal s room = first (refusal s ∷ 17 when (ltb room (ruleOffset (rulesAsked s))) ∷ [])
+
+-- a count of the tally that can not move on (01 Refusals, 25)
+abbrev pub full : ℕ → Bool
+full n = eqb n (2 ^ 32 - 1)
+
+-- marking, with the counts of the tally: 25, 1 to 16, 17, 19 (01 Refusals)
+unfoldable pub markingRefusal : List ℕ → List ℕ → ℕ → ℕ → ℕ
+markingRefusal counts s room numbers = first (25 when (any full counts) ∷ makingRefusal s room ∷ 19 when (ltb numbers (rulesAsked s)) ∷ [])
+
+-- Calls on a form: 3, 4, (14 to 16 for a mask), 18, 19, then 20 or 21.
+
+-- opening a form (01 Refusals)
+unfoldable pub openingRefusal : List ℕ → List ℕ → ℕ
+openingRefusal alphabet form = first (alphabetRefusal alphabet ∷ formRefusal alphabet form ∷ [])
+
+-- reading the rule of a number (01 Refusals)
+unfoldable pub readingRefusal : List ℕ → List ℕ → ℕ → ℕ
+readingRefusal alphabet form i = first (openingRefusal alphabet form ∷ 21 when (leb (ruleCount form) i) ∷ [])
+
+-- evaluation, which lends R numbers (01 Refusals)
+unfoldable pub evaluationRefusal : List ℕ → List ℕ → List ℕ → ℕ → ℕ
+evaluationRefusal alphabet automaton form numbers = first (
+    alphabetRefusal alphabet
+    ∷ automatonRefusal alphabet automaton
+    ∷ formRefusal alphabet form
+    ∷ 19 when (ltb numbers (ruleCount form))
+    ∷ [])
+
+-- the relations that evaluation ends with: entry i is that of rule i (01 Mask from the form)
+unfoldable pub relationsOf : List ℕ → List ℕ → List ℕ → List ℕ
+relationsOf alphabet automaton form = tabulate (ruleCount form) (relationAt (transitionsOf alphabet automaton) (formRules alphabet form))
+
+-- the mask that evaluation answers: bits 0 to 7 of the start's entry (01 Mask from the form)
+unfoldable pub formMask : List ℕ → List ℕ → List ℕ → ℕ
+formMask alphabet automaton form = relationAt (transitionsOf alphabet automaton) (formRules alphabet form) (startOf form) % 2 ^ 8
+
+-- size, which lends 2 · R numbers (01 Refusals)
+unfoldable pub sizeRefusal : List ℕ → List ℕ → ℕ → ℕ
+sizeRefusal alphabet form numbers = first (openingRefusal alphabet form ∷ 19 when (ltb numbers (2 * ruleCount form)) ∷ [])
+
+-- unfolding into a slice (01 Refusals)
+unfoldable pub unfoldingRefusal : List ℕ → List ℕ → ℕ → ℕ → ℕ
+unfoldingRefusal alphabet form numbers room = first (sizeRefusal alphabet form numbers ∷ 20 when (ltb room (sizeOf (formTree alphabet form))) ∷ [])
+
+-- the label at a preorder position (01 Refusals)
+unfoldable pub labelRefusal : List ℕ → List ℕ → ℕ → ℕ → ℕ
+labelRefusal alphabet form position numbers = first (
+    sizeRefusal alphabet form numbers
+    ∷ 21 when (leb (capped (sizeOf (formTree alphabet form))) position)
+    ∷ [])
+
+-- the terminal at a preorder position, the root being 0 (01 Size, label)
+unfoldable pub labelAt : List ℕ → List ℕ → ℕ → ℕ
+labelAt alphabet form position = getD (preorder (formTree alphabet form)) position 0
+
+-- the counts that size, label and unfolding end with: entry 2 · i is rule i's node count, entry 2 · i + 1 that of the nodes before its hole (01 Unfolding)
+unfoldable pub countsOf : List ℕ → List ℕ → List ℕ
+countsOf alphabet form =
+    let value = valueAt (formRules alphabet form) in
+    tabulate (2 * ruleCount form) (λ k. capped (cond (eqb (k % 2) 0) (ownNodes (value (k / 2))) (nodesBefore (value (k / 2)))))
+
+-- The plain walk and wrap.
+
+-- the most nodes of a tree that is walked (01 Plain walk)
+abbrev pub mostWalked : ℕ
+mostWalked = 4096
+
+-- the walk: 3, 4, 14 to 16, 22, 23, 19 (01 Refusals)
+unfoldable pub walkRefusal : List ℕ → List ℕ → List ℕ → ℕ → ℕ
+walkRefusal alphabet automaton tree room = first (
+    alphabetRefusal alphabet
+    ∷ automatonRefusal alphabet automaton
+    ∷ treeRefusal mostWalked alphabet tree
+    ∷ 19 when (ltb room (length tree))
+    ∷ [])
+
+-- wrap: 3, 4, 22, 23, 14 to 16, 24 (01 Refusals)
+unfoldable pub wrapRefusal : List ℕ → List ℕ → List ℕ → ℕ → ℕ
+wrapRefusal alphabet tree automaton room = first (
+    alphabetRefusal alphabet
+    ∷ treeRefusal mostNodes alphabet tree
+    ∷ automatonRefusal alphabet automaton
+    ∷ 24 when (ltb room (length (wrapped alphabet tree automaton)))
+    ∷ [])

@@ -1,0 +1,324 @@
+-- Sheets and calls with what must come out (document 01, "Refusals with a sheet for each" and "Sheets for the desk"), as bytes.
+use mathlib.Core.List.{List, [], _∷_, _++_}
+use Prim.Native.Nat.{ℕ, zero, suc, _-_, _^_, _/_, _%_}
+use lib.ListN.{length, take, drop, set, replicate}
+use Rattle.terms.specs.Tree.{preorder}
+use Rattle.terms.specs.Sheet.{nodesOf, Verdict, accepted, declined, sheetTree, sheetMask, sheetVerdict, wrapped}
+use Rattle.terms.specs.Check.{refusal}
+use Rattle.terms.specs.FormBytes.{formTree}
+use Rattle.terms.specs.Count.{Size, exact, over, sizeOf, sizeAnswer}
+use Rattle.terms.specs.Calls.{makingRefusal, markingRefusal, openingRefusal, readingRefusal, evaluationRefusal, relationsOf, formMask, sizeRefusal, unfoldingRefusal, labelRefusal, labelAt, countsOf, walkRefusal, wrapRefusal}
+
+-- the n bytes that a hexadecimal numeral writes, the first byte first (01 Sheets for the desk)
+unfoldable pub hex : ℕ → ℕ → List ℕ
+hex zero x = []
+hex (suc n) x = x / 256 ^ n % 256 ∷ hex n x
+
+-- bytes n times over (01 Sheets for the desk)
+unfoldable pub times : ℕ → List ℕ → List ℕ
+times zero xs = []
+times (suc n) xs = xs ++ times n xs
+
+-- what must come out for a sheet: a refusal, or verdict, mask, size and the tree in preorder (01 Sheets for the desk)
+pub data Outcome : Type 0 where
+  refused : ℕ → Outcome
+  marked : Verdict → ℕ → Size → List ℕ → Outcome
+
+-- what comes out for a sheet whose refusal is known (01 Sheets for the desk)
+abbrev pub outcomeAfter : List ℕ → ℕ → Outcome
+outcomeAfter s zero = marked (sheetVerdict s) (sheetMask s) (sizeAnswer (sizeOf (sheetTree s))) (preorder (sheetTree s))
+outcomeAfter s (suc n) = refused (suc n)
+
+-- what comes out for a sheet (01 Sheets for the desk)
+unfoldable pub outcome : List ℕ → Outcome
+outcome s = outcomeAfter s (refusal s)
+
+-- a sheet and what must come out (01 Sheets for the desk)
+pub record SheetRow : Type 0 where
+  pub sheet : List ℕ
+  pub out : Outcome
+
+-- a row of a sheet that is refused (01 Refusals)
+abbrev pub refuses : ℕ → List ℕ → SheetRow
+refuses n s = record { sheet = s; out = refused n }
+
+-- a row of a sheet that is marked (01 Sheets for the desk)
+abbrev pub marks : List ℕ → Verdict → ℕ → ℕ → List ℕ → SheetRow
+marks s v m n t = record { sheet = s; out = marked v m (exact n) t }
+
+-- W, 58 bytes (01 Refusals)
+unfoldable pub W : List ℕ
+W = hex 58 0x0C00_0300_0F00_1100_2000_1A00_000201_0103020280_020401408180_000441004000_0201_0000FFFFFFFF_020100FFFFFF_020001FFFFFF_01000000FFFF
+
+-- "b22=03" is W with byte 22 set so (01 Refusals)
+abbrev pub wWith : ℕ → ℕ → List ℕ
+wWith i b = set W i b
+
+-- the alphabet of W (01 Refusals)
+abbrev pub wAlphabet : List ℕ
+wAlphabet = hex 3 0x000201
+
+-- the rules of W (01 Refusals)
+abbrev pub wRules : List ℕ
+wRules = take 17 (drop 15 W)
+
+-- the automaton of W (01 Refusals)
+abbrev pub wAutomaton : List ℕ
+wAutomaton = drop 32 W
+
+-- K7: rule 0 is h(y1), each of ten more is the last called twice, start on a (01 Sheets for the desk)
+unfoldable pub K7 : List ℕ
+K7 = hex 12 0x0C00_0300_0F00_3A00_4900_1A00 ++ (wAlphabet ++ (hex 58 0x01020280_0103404080_0103414180_0103424280_0103434380_0103444480_0103454580_0103464680_0103474780_0103484880_0103494980_00024A00 ++ wAutomaton))
+
+-- the sheets with a star; K9 is among the calls (01 Sheets for the desk)
+unfoldable pub desk : List SheetRow
+desk =
+    -- K1
+    marks W accepted 1 7 (hex 7 0x01020202020000)
+    -- K2: state 1 is final
+    ∷ marks (wWith 33 0x02) declined 1 7 (hex 7 0x01020202020000)
+    -- K3
+    ∷ refuses 1 []
+    -- K4: only rule 00 01 00
+    ∷ marks (hex 12 0x0C00_0300_0F00_0300_1200_1A00 ++ (wAlphabet ++ (hex 3 0x000100 ++ wAutomaton))) accepted 1 1 (hex 1 0x00)
+    -- K5: W without transitions
+    ∷ marks (hex 12 0x0C00_0300_0F00_1100_2000_0200 ++ (wAlphabet ++ (wRules ++ hex 2 0x0201))) declined 0 7 (hex 7 0x01020202020000)
+    -- K6: f(a, a); a to 0, a to 1, f(0, 1) to 0
+    ∷ marks (hex 40 0x0C00_0300_0F00_0500_1400_1400_000201_0003010000_0201_0000FFFFFFFF_0001FFFFFFFF_01000001FFFF) accepted 1 3 (hex 3 0x010000)
+    -- K7
+    ∷ marks K7 accepted 1 1025 (replicate 1024 0x02 ++ (0x00 ∷ []))
+    -- K8: rule f(y2, y1) called on a, h(a)
+    ∷ marks (hex 12 0x0C00_0300_0F00_0B00_1A00_1A00 ++ (wAlphabet ++ (hex 11 0x0203018180_000440000200 ++ wAutomaton))) declined 0 4 (hex 4 0x01020000)
+    ∷ []
+
+-- refusals 1 to 16: an example, and a row for each other thing that the number's test looks at (01 Refusals)
+unfoldable pub sheetRefusals : List SheetRow
+sheetRefusals =
+    refuses 1 []
+    ∷ refuses 1 (take 11 W)
+    ∷ refuses 1 (W ++ replicate 1775 0xFF)
+    -- contents: each offset and each length, low byte and high byte; a byte too many
+    ∷ refuses 2 (wWith 0 0x0D)
+    ∷ refuses 2 (set (wWith 0 0x0D) 2 0x02)
+    ∷ refuses 2 (wWith 1 0x01)
+    ∷ refuses 2 (wWith 2 0x02)
+    ∷ refuses 2 (wWith 3 0x01)
+    ∷ refuses 2 (wWith 4 0x10)
+    ∷ refuses 2 (wWith 5 0x01)
+    ∷ refuses 2 (wWith 6 0x10)
+    ∷ refuses 2 (wWith 7 0x01)
+    ∷ refuses 2 (wWith 8 0x21)
+    ∷ refuses 2 (wWith 9 0x01)
+    ∷ refuses 2 (wWith 10 0x19)
+    ∷ refuses 2 (wWith 11 0x01)
+    ∷ refuses 2 (W ++ (0xFF ∷ []))
+    ∷ refuses 2 (replicate 58 0xFF)
+    -- three empty bodies; 33 terminals
+    ∷ refuses 3 (hex 12 0x0C00_0000_0C00_0000_0C00_0000)
+    ∷ refuses 3 (hex 12 0x0C00_2100_2D00_1100_3E00_1A00 ++ (wAlphabet ++ (replicate 30 0x00 ++ (wRules ++ wAutomaton))))
+    ∷ refuses 4 (wWith 12 0x05)
+    -- a rule's end past the body's; no rules; a rank alone
+    ∷ refuses 5 (wWith 27 0x05)
+    ∷ refuses 5 (hex 12 0x0C00_0300_0F00_0000_0F00_1A00 ++ (wAlphabet ++ wAutomaton))
+    ∷ refuses 5 (hex 12 0x0C00_0300_0F00_1200_2100_1A00 ++ (wAlphabet ++ (wRules ++ (0x00 ∷ wAutomaton))))
+    -- 65 times 00 01 00
+    ∷ refuses 6 (hex 12 0x0C00_0300_0F00_C300_D200_1A00 ++ (wAlphabet ++ (times 65 (hex 3 0x000100) ++ wAutomaton)))
+    -- one rule of 129
+    ∷ refuses 7 (hex 12 0x0C00_0300_0F00_8300_9200_1A00 ++ (wAlphabet ++ (hex 2 0x0081 ++ (replicate 128 0x02 ++ (0x00 ∷ wAutomaton)))))
+    ∷ refuses 8 (wWith 15 0x05)
+    -- no such terminal; no such parameter; a rule that calls itself; other bytes
+    ∷ refuses 9 (wWith 22 0x03)
+    ∷ refuses 9 (wWith 19 0x81)
+    ∷ refuses 9 (wWith 23 0x41)
+    ∷ refuses 9 (wWith 22 0x20)
+    ∷ refuses 9 (wWith 22 0x84)
+    ∷ refuses 9 (wWith 22 0xFF)
+    -- two trees; a child that is lacking; no nodes
+    ∷ refuses 10 (wWith 28 0x00)
+    ∷ refuses 10 (wWith 31 0x02)
+    ∷ refuses 10 (hex 12 0x0C00_0300_0F00_0200_1100_1A00 ++ (wAlphabet ++ (hex 2 0x0000 ++ wAutomaton)))
+    -- a parameter twice and another not at all; a parameter that does not occur; f(y1, y1)
+    ∷ refuses 11 (wWith 25 0x81)
+    ∷ refuses 11 (wWith 15 0x02)
+    ∷ refuses 11 (hex 12 0x0C00_0300_0F00_0500_1400_1A00 ++ (wAlphabet ++ (hex 5 0x0103018080 ++ wAutomaton)))
+    -- rule 01 01 80
+    ∷ refuses 12 (hex 12 0x0C00_0300_0F00_0300_1200_1A00 ++ (wAlphabet ++ (hex 3 0x010180 ++ wAutomaton)))
+    -- rule 0 refused by 12 and rule 1 by 8: rule by rule
+    ∷ refuses 12 (hex 12 0x0C00_0300_0F00_0600_1500_1A00 ++ (wAlphabet ++ (hex 6 0x010180_050100 ++ wAutomaton)))
+    -- W without rule 2
+    ∷ refuses 13 (hex 12 0x0C00_0300_0F00_0B00_1A00_1A00 ++ (wAlphabet ++ (take 11 wRules ++ wAutomaton)))
+    -- W less its last byte; an automaton of 1 byte; 256 transitions
+    ∷ refuses 14 (take 57 (wWith 10 0x19))
+    ∷ refuses 14 (take 33 (wWith 10 0x01))
+    ∷ refuses 14 (set (wWith 11 0x06) 10 0x02 ++ times 252 (hex 6 0x0000FFFFFFFF))
+    -- 9 states; no state; a final state that does not exist
+    ∷ refuses 15 (wWith 32 0x09)
+    ∷ refuses 15 (set (wWith 32 0x00) 33 0x00)
+    ∷ refuses 15 (wWith 33 0x04)
+    -- terminal; target; a used child; an unused child
+    ∷ refuses 16 (wWith 34 0x03)
+    ∷ refuses 16 (wWith 35 0x02)
+    ∷ refuses 16 (wWith 42 0x02)
+    ∷ refuses 16 (wWith 55 0x02)
+    ∷ refuses 16 (wWith 43 0x00)
+    ∷ refuses 16 (wWith 57 0x00)
+    ∷ []
+
+-- what the definitions give for a call, and what must come out (01 Sheets for the desk)
+pub record CallRow : Type 0 where
+  pub gives : List ℕ
+  pub says : List ℕ
+
+-- a number, and what it must be (01 Sheets for the desk)
+abbrev pub is : ℕ → ℕ → CallRow
+is n m = record { gives = n ∷ []; says = m ∷ [] }
+
+-- a form for W's tree: 0 is a, 1 is h(y), 2 is f(y, a), 3 is h(h(y)), 4 is f(h(y), a), 5 is f(h(h(h(y))), a), 6 is h(a), 7, the start, is
+-- f(h(h(h(h(a)))), a), and 8 is f(h(a), a) (01 Sheets for the desk)
+unfoldable pub form : List ℕ
+form =
+    hex 4 0x0900_0700
+    ++ hex 108 0x00000000_FFFFFFFFFFFFFFFF_01020100_FFFFFFFFFFFFFFFF_01010100_FFFF0000FFFFFFFF_03FF0000_01000100FFFFFFFF_03FF0000_02000100FFFFFFFF_03FF0000_04000300FFFFFFFF_02FF0000_01000000FFFFFFFF_02FF0000_05000600FFFFFFFF_00010000_06000000FFFFFFFF
+
+-- the refusal of the form with one byte set (01 Sheets for the desk)
+abbrev pub formWith : ℕ → ℕ → ℕ
+formWith i b = openingRefusal wAlphabet (set form i b)
+
+-- the form's fields: all are in order, then one at a time is not (01 One-hole form)
+unfoldable pub fieldRefusals : List CallRow
+fieldRefusals =
+    is (openingRefusal wAlphabet form) 0
+    -- length: 3 bytes, none, one short, one too many
+    ∷ is (openingRefusal wAlphabet (take 3 form)) 18
+    ∷ is (openingRefusal wAlphabet []) 18
+    ∷ is (openingRefusal wAlphabet (take 111 form)) 18
+    ∷ is (openingRefusal wAlphabet (form ++ (0xFF ∷ []))) 18
+    ∷ is (openingRefusal wAlphabet (replicate 112 0xFF)) 18
+    -- a and f(a, a, a, a): whole, one byte short
+    ∷ is (openingRefusal (hex 2 0x0004) (hex 28 0x0200_0100_00000000_FFFFFFFFFFFFFFFF_00010000_0000000000000000)) 0
+    ∷ is (openingRefusal (hex 2 0x0004) (hex 27 0x0200_0100_00000000_FFFFFFFFFFFFFFFF_00010000_00000000000000)) 18
+    -- rule count: another, none, 2,049
+    ∷ is (formWith 0 0x08) 18
+    ∷ is (openingRefusal wAlphabet (hex 4 0x00000000)) 18
+    ∷ is (openingRefusal wAlphabet (hex 4 0x0108_0000 ++ times 2049 (hex 12 0x00000000_FFFFFFFFFFFFFFFF))) 18
+    -- start: not below R, of rank 1
+    ∷ is (formWith 2 0x09) 18
+    ∷ is (formWith 2 0x05) 18
+    -- kind 0, rule 8: kind, terminal, terminal's rank, hole, fourth byte, slot not lower, slot of rank 1, used slot FFFF, unused slot not FFFF
+    ∷ is (formWith 100 0x04) 18
+    ∷ is (formWith 101 0x03) 18
+    ∷ is (formWith 101 0x02) 18
+    ∷ is (formWith 102 0x01) 18
+    ∷ is (formWith 103 0x01) 18
+    ∷ is (formWith 104 0x08) 18
+    ∷ is (formWith 106 0x01) 18
+    ∷ is (openingRefusal wAlphabet (take 106 form ++ replicate 6 0xFF)) 18
+    ∷ is (formWith 108 0x00) 18
+    ∷ is (formWith 111 0x00) 18
+    -- kind 0, rule 0, whose slots are all unused: terminal, hole; rule 8 as kind 1 with no hole
+    ∷ is (formWith 5 0x03) 18
+    ∷ is (formWith 6 0x01) 18
+    ∷ is (formWith 100 0x01) 18
+    -- kind 1, rule 2: terminal, hole 0, hole past the rank, another hole, fourth byte, the hole's slot, the other slot, an unused slot
+    ∷ is (formWith 29 0x03) 18
+    ∷ is (formWith 30 0x00) 18
+    ∷ is (formWith 30 0x03) 18
+    ∷ is (formWith 30 0x02) 18
+    ∷ is (formWith 31 0x01) 18
+    ∷ is (formWith 32 0x00) 18
+    ∷ is (formWith 34 0x01) 18
+    ∷ is (formWith 35 0x01) 18
+    ∷ is (formWith 36 0x00) 18
+    -- kind 3, rule 5: terminal, hole, fourth byte, B not lower, B of rank 0, C of rank 0, unused slots
+    ∷ is (formWith 65 0x00) 18
+    ∷ is (formWith 66 0x01) 18
+    ∷ is (formWith 67 0x01) 18
+    ∷ is (formWith 68 0x05) 18
+    ∷ is (formWith 68 0x00) 18
+    ∷ is (formWith 70 0x00) 18
+    ∷ is (formWith 72 0x00) 18
+    ∷ is (formWith 74 0x00) 18
+    -- kind 2, rule 6: terminal, hole, fourth byte, B of rank 0, C not lower, C of rank 1, unused slots
+    ∷ is (formWith 77 0x00) 18
+    ∷ is (formWith 78 0x01) 18
+    ∷ is (formWith 79 0x01) 18
+    ∷ is (formWith 80 0x00) 18
+    ∷ is (formWith 82 0x07) 18
+    ∷ is (formWith 82 0x01) 18
+    ∷ is (formWith 84 0x00) 18
+    ∷ is (formWith 86 0x00) 18
+    ∷ []
+
+-- refusals 17 to 25, the order of each call's refusals, and what the calls on a form answer (01 Refusals)
+unfoldable pub calls : List CallRow
+calls =
+    -- right-side nodes
+    is (nodesOf W) 11
+    ∷ is (nodesOf K7) 34
+    -- form making
+    ∷ is (makingRefusal W 2115) 17
+    ∷ is (makingRefusal W 2116) 0
+    ∷ is (makingRefusal (wWith 34 0x03) 0) 16
+    -- marking: 25, 1 to 16, 17, 19
+    ∷ is (markingRefusal (0 ∷ 0 ∷ 0 ∷ []) W 2116 176) 0
+    ∷ is (markingRefusal (0 ∷ 0 ∷ 0 ∷ []) W 2116 175) 19
+    ∷ is (markingRefusal (0 ∷ 0 ∷ 0 ∷ []) W 2115 175) 17
+    ∷ is (markingRefusal (0 ∷ 0 ∷ 0 ∷ []) [] 0 0) 1
+    ∷ is (markingRefusal (4_294_967_295 ∷ 0 ∷ 0 ∷ []) [] 0 0) 25
+    ∷ is (markingRefusal (0 ∷ 4_294_967_295 ∷ 0 ∷ []) W 2116 176) 25
+    ∷ is (markingRefusal (0 ∷ 0 ∷ 4_294_967_295 ∷ []) W 2116 176) 25
+    ∷ is (markingRefusal (4_294_967_294 ∷ 0 ∷ 0 ∷ []) W 2116 176) 0
+    -- evaluation: 3, 4, 14 to 16, 18, 19
+    ∷ is (evaluationRefusal wAlphabet wAutomaton form 9) 0
+    ∷ is (evaluationRefusal wAlphabet wAutomaton form 8) 19
+    ∷ is (evaluationRefusal wAlphabet wAutomaton [] 0) 18
+    ∷ is (evaluationRefusal wAlphabet (set wAutomaton 2 0x03) [] 0) 16
+    ∷ is (evaluationRefusal wAlphabet [] [] 0) 14
+    ∷ is (evaluationRefusal (hex 3 0x000501) [] [] 0) 4
+    ∷ is (evaluationRefusal [] [] [] 0) 3
+    ∷ record { gives = relationsOf wAlphabet wAutomaton form; says = 1 ∷ 258 ∷ 1 ∷ 513 ∷ 256 ∷ 256 ∷ 2 ∷ 1 ∷ 0 ∷ [] }
+    ∷ is (formMask wAlphabet wAutomaton form) 1
+    -- size, unfolding, label and reading: 3, 4, 18, 19, then 20 or 21
+    ∷ is (sizeRefusal wAlphabet form 18) 0
+    ∷ is (sizeRefusal wAlphabet form 17) 19
+    ∷ is (sizeRefusal wAlphabet [] 0) 18
+    ∷ is (sizeRefusal [] [] 0) 3
+    ∷ record { gives = preorder (formTree wAlphabet form); says = hex 7 0x01020202020000 }
+    ∷ record { gives = countsOf wAlphabet form; says = 1 ∷ 0 ∷ 1 ∷ 1 ∷ 2 ∷ 1 ∷ 2 ∷ 2 ∷ 3 ∷ 2 ∷ 5 ∷ 4 ∷ 2 ∷ 0 ∷ 7 ∷ 0 ∷ 4 ∷ 0 ∷ [] }
+    ∷ is (unfoldingRefusal wAlphabet form 18 7) 0
+    ∷ is (unfoldingRefusal wAlphabet form 18 6) 20
+    ∷ is (unfoldingRefusal wAlphabet form 17 6) 19
+    ∷ is (labelRefusal wAlphabet form 6 18) 0
+    ∷ is (labelRefusal wAlphabet form 7 18) 21
+    ∷ is (labelRefusal wAlphabet form (2 ^ 64 - 1) 18) 21
+    ∷ is (labelRefusal wAlphabet form 7 17) 19
+    ∷ is (labelAt wAlphabet form 0) 0x01
+    ∷ is (labelAt wAlphabet form 4) 0x02
+    ∷ is (labelAt wAlphabet form 5) 0x00
+    ∷ is (readingRefusal wAlphabet form 8) 0
+    ∷ is (readingRefusal wAlphabet form 9) 21
+    ∷ is (readingRefusal wAlphabet [] 9) 18
+    -- walk: 3, 4, 14 to 16, 22, 23, 19; K9
+    ∷ is (walkRefusal wAlphabet wAutomaton (hex 2 0x0100) 2) 23
+    ∷ is (walkRefusal wAlphabet wAutomaton (hex 4 0x01020000) 4) 0
+    ∷ is (walkRefusal wAlphabet wAutomaton (hex 4 0x01020000) 3) 19
+    ∷ is (walkRefusal wAlphabet wAutomaton (hex 1 0x03) 0) 23
+    ∷ is (walkRefusal wAlphabet wAutomaton [] 0) 23
+    ∷ is (walkRefusal wAlphabet wAutomaton (replicate 4097 0x00) 0) 22
+    ∷ is (walkRefusal wAlphabet wAutomaton (replicate 4096 0x00) 0) 23
+    ∷ is (walkRefusal wAlphabet [] (replicate 4097 0x00) 0) 14
+    ∷ is (walkRefusal [] [] [] 0) 3
+    -- wrap: 3, 4, 22, 23, 14 to 16, 24
+    ∷ is (wrapRefusal wAlphabet (hex 7 0x01020202020000) wAutomaton 50) 0
+    ∷ is (wrapRefusal wAlphabet (hex 7 0x01020202020000) wAutomaton 49) 24
+    ∷ is (wrapRefusal wAlphabet (hex 1 0x00) wAutomaton 0) 24
+    ∷ is (wrapRefusal wAlphabet (hex 1 0x00) [] 0) 14
+    ∷ is (wrapRefusal wAlphabet (hex 2 0x0100) [] 0) 23
+    ∷ is (wrapRefusal wAlphabet (replicate 129 0x00) [] 0) 22
+    ∷ is (wrapRefusal wAlphabet (replicate 128 0x02) [] 0) 23
+    ∷ is (wrapRefusal [] (replicate 129 0x00) [] 0) 3
+    ∷ record {
+      gives = wrapped wAlphabet (hex 4 0x01020000) wAutomaton;
+      says = hex 12 0x0C00_0300_0F00_0600_1500_1A00 ++ (wAlphabet ++ (hex 6 0x000401020000 ++ wAutomaton));
+    }
+    ∷ []

@@ -1,0 +1,115 @@
+-- The bytes of a one-hole form (document 01, "One-hole form").
+use mathlib.Core.Bool.{Bool, true, false, cond, not, _&&_}
+use mathlib.Core.List.{List, [], _∷_}
+use Prim.Native.Nat.{ℕ, zero, suc, _+_, _*_, _-_, _%_}
+use lib.Dec.{leb, ltb, eqb}
+use lib.ListN.{length, getD}
+use Rattle.terms.specs.Test.{every, tabulate}
+use Rattle.terms.specs.Refusal.{_when_, outside}
+use Rattle.terms.specs.Bytes.{word}
+use Rattle.terms.specs.Tree.{Tree}
+use Rattle.terms.specs.Grammar.{terminalRank}
+use Rattle.terms.specs.Form.{Rule, whole, pierced, filled, composed, treeIn, valueAt}
+
+-- What the bytes say.
+
+-- the number R of rules (01 One-hole form)
+abbrev pub ruleCount : List ℕ → ℕ
+ruleCount form = word form 0
+
+-- the number of the start (01 One-hole form)
+abbrev pub startOf : List ℕ → ℕ
+startOf form = word form 2
+
+-- where rule i begins; a form of i rules ends there (01 One-hole form)
+abbrev pub ruleOffset : ℕ → ℕ
+ruleOffset i = 4 + 12 * i
+
+-- byte k of rule i: kind, terminal, hole, 00 (01 One-hole form)
+abbrev pub ruleByte : List ℕ → ℕ → ℕ → ℕ
+ruleByte form i k = getD form (ruleOffset i + k) 0
+
+-- slot j of rule i, counted from 0 (01 One-hole form)
+abbrev pub slotOf : List ℕ → ℕ → ℕ → ℕ
+slotOf form i j = word form (ruleOffset i + (4 + 2 * j))
+
+-- the rank of the rules of a kind: 0 for kinds 0 and 2, 1 for kinds 1 and 3 (01 One-hole form)
+abbrev pub kindRank : ℕ → ℕ
+kindRank kind = kind % 2
+
+-- the rank of rule i (01 One-hole form)
+abbrev pub rankAt : List ℕ → ℕ → ℕ
+rankAt form i = kindRank (ruleByte form i 0)
+
+-- a rule by its kind: terminal f of rank n, the open place at child h, slots by their places (01 One-hole form)
+abbrev pub ruleOfKind : ℕ → ℕ → ℕ → ℕ → (ℕ → ℕ) → Rule
+ruleOfKind zero f n h slot = whole f (tabulate n slot)
+ruleOfKind (suc zero) f n h slot = pierced f (tabulate (h - 1) slot) (tabulate (n - h) (λ j. slot (h + j)))
+ruleOfKind (suc (suc zero)) f n h slot = filled (slot 0) (slot 1)
+ruleOfKind (suc (suc (suc kind))) f n h slot = composed (slot 0) (slot 1)
+
+-- rule i, its terminal read against the alphabet (01 One-hole form)
+unfoldable pub formRule : List ℕ → List ℕ → ℕ → Rule
+formRule alphabet form i =
+    let f = ruleByte form i 1 in
+    ruleOfKind (ruleByte form i 0) f (terminalRank alphabet f) (ruleByte form i 2) (slotOf form i)
+
+-- the rules (01 One-hole form)
+unfoldable pub formRules : List ℕ → List ℕ → List Rule
+formRules alphabet form = tabulate (ruleCount form) (formRule alphabet form)
+
+-- the tree that the form derives: that of its start (01 One-hole form)
+unfoldable pub formTree : List ℕ → List ℕ → Tree
+formTree alphabet form = treeIn (valueAt (formRules alphabet form) (startOf form))
+
+-- What is asked of them.
+
+-- a is the number of a rule below i that has the rank k (01 One-hole form)
+abbrev pub callsLower : List ℕ → ℕ → ℕ → ℕ → Bool
+callsLower form i k a = ltb a i && eqb (rankAt form a) k
+
+-- a slot that is not used (01 One-hole form)
+abbrev pub unusedSlot : ℕ → Bool
+unusedSlot a = eqb a 0xFFFF
+
+-- the slots of f(A1..An), the open place at child h, 0 where there is none: a used slot has rank 0 (01 One-hole form)
+abbrev pub slotsFit : List ℕ → ℕ → ℕ → ℕ → Bool
+slotsFit form i n h =
+    every 4 (λ j. cond (ltb j n && not (eqb (suc j) h)) (callsLower form i 0 (slotOf form i j)) (unusedSlot (slotOf form i j)))
+
+-- kinds 2 and 3: no terminal, no hole, B of rank 1 and C of rank k (01 One-hole form)
+abbrev pub chainFits : List ℕ → ℕ → ℕ → ℕ → ℕ → Bool
+chainFits form i f h k =
+    eqb f 0xFF
+    && (eqb h 0
+    && (callsLower form i 1 (slotOf form i 0)
+    && (callsLower form i k (slotOf form i 1) && (unusedSlot (slotOf form i 2) && unusedSlot (slotOf form i 3)))))
+
+-- a rule by its kind: terminal f of rank n, below the number t of terminals, and hole h (01 One-hole form)
+abbrev pub kindFits : List ℕ → ℕ → ℕ → ℕ → ℕ → ℕ → ℕ → Bool
+kindFits form i zero t f n h = ltb f t && (eqb h 0 && slotsFit form i n h)
+kindFits form i (suc zero) t f n h = ltb f t && (not (outside 1 n h) && slotsFit form i n h)
+kindFits form i (suc (suc zero)) t f n h = chainFits form i f h 0
+kindFits form i (suc (suc (suc zero))) t f n h = chainFits form i f h 1
+kindFits form i (suc (suc (suc (suc kind)))) t f n h = false
+
+-- rule i keeps the section's rules for the alphabet (01 One-hole form)
+unfoldable pub ruleFits : List ℕ → List ℕ → ℕ → Bool
+ruleFits alphabet form i =
+    let f = ruleByte form i 1 in
+    eqb (ruleByte form i 3) 0 && kindFits form i (ruleByte form i 0) (length alphabet) f (terminalRank alphabet f) (ruleByte form i 2)
+
+-- the most rules of a form (01 One-hole form)
+abbrev pub mostFormRules : ℕ
+mostFormRules = 2048
+
+-- the form is valid for the alphabet (01 One-hole form)
+unfoldable pub validFor : List ℕ → List ℕ → Bool
+validFor alphabet form =
+    not (outside 1 mostFormRules (ruleCount form))
+    && (eqb (length form) (ruleOffset (ruleCount form))
+    && (callsLower form (ruleCount form) 0 (startOf form) && every (ruleCount form) (ruleFits alphabet form)))
+
+-- the refusal 18 of a form (01 One-hole form)
+unfoldable pub formRefusal : List ℕ → List ℕ → ℕ
+formRefusal alphabet form = 18 when (not (validFor alphabet form))
