@@ -70,6 +70,10 @@ wAutomaton = drop 32 W
 unfoldable pub K7 : List ℕ
 K7 = hex 12 0x0C00_0300_0F00_3A00_4900_1A00 ++ (wAlphabet ++ (hex 58 0x01020280_0103404080_0103414180_0103424280_0103434380_0103444480_0103454580_0103464680_0103474780_0103484880_0103494980_00024A00 ++ wAutomaton))
 
+-- K8: rule f(y2, y1) called on a, h(a) (01 Sheets for the desk)
+unfoldable pub K8 : List ℕ
+K8 = hex 12 0x0C00_0300_0F00_0B00_1A00_1A00 ++ (wAlphabet ++ (hex 11 0x0203018180_000440000200 ++ wAutomaton))
+
 -- the sheets with a star; K9 is among the calls (01 Sheets for the desk)
 unfoldable pub desk : List SheetRow
 desk =
@@ -87,8 +91,8 @@ desk =
     ∷ marks (hex 40 0x0C00_0300_0F00_0500_1400_1400_000201_0003010000_0201_0000FFFFFFFF_0001FFFFFFFF_01000001FFFF) accepted 1 3 (hex 3 0x010000)
     -- K7
     ∷ marks K7 accepted 1 1025 (replicate 1024 0x02 ++ (0x00 ∷ []))
-    -- K8: rule f(y2, y1) called on a, h(a)
-    ∷ marks (hex 12 0x0C00_0300_0F00_0B00_1A00_1A00 ++ (wAlphabet ++ (hex 11 0x0203018180_000440000200 ++ wAutomaton))) declined 0 4 (hex 4 0x01020000)
+    -- K8
+    ∷ marks K8 declined 0 4 (hex 4 0x01020000)
     ∷ []
 
 -- refusals 1 to 16: an example, and a row for each other thing that the number's test looks at (01 Refusals)
@@ -215,10 +219,11 @@ fieldRefusals =
     ∷ is (openingRefusal wAlphabet (take 106 form ++ replicate 6 0xFF)) 18
     ∷ is (formWith 108 0x00) 18
     ∷ is (formWith 111 0x00) 18
-    -- kind 0, rule 0, whose slots are all unused: terminal, hole; rule 8 as kind 1 with no hole
+    -- kind 0, rule 0, whose slots are all unused: terminal, hole; rule 8 as kind 1 with hole 0, and with hole 3
     ∷ is (formWith 5 0x03) 18
     ∷ is (formWith 6 0x01) 18
     ∷ is (formWith 100 0x01) 18
+    ∷ is (openingRefusal wAlphabet (set (set form 100 0x01) 102 0x03)) 18
     -- kind 1, rule 2: terminal, hole 0, hole past the rank, another hole, fourth byte, the hole's slot, the other slot, an unused slot
     ∷ is (formWith 29 0x03) 18
     ∷ is (formWith 30 0x00) 18
@@ -255,6 +260,9 @@ calls =
     -- right-side nodes
     is (nodesOf W) 11
     ∷ is (nodesOf K7) 34
+    -- child states in order: f(1, 0) to 0 and f(0, 1) to 0 on f(h(a), a)
+    ∷ is (sheetMask (set K8 48 0x01)) 1
+    ∷ is (sheetMask (set K8 49 0x01)) 0
     -- form making
     ∷ is (makingRefusal W 2115) 17
     ∷ is (makingRefusal W 2116) 0
