@@ -1,6 +1,6 @@
 -- Node counts of what a form's rules derive (document 01, "Unfolding" and "Size, label, wrap, tally, program").
 use mathlib.Core.Bool.{cond}
-use mathlib.Core.List.{List, _++_}
+use mathlib.Core.List.{_++_}
 use Prim.Native.Nat.{ℕ, _-_, _^_, min}
 use lib.Dec.{ltb}
 use lib.ListN.{length}

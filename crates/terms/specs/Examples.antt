@@ -1,12 +1,12 @@
 -- Sheets and calls with what must come out (document 01, "Refusals with a sheet for each" and "Sheets for the desk"), as bytes.
 use mathlib.Core.List.{List, [], _∷_, _++_}
 use Prim.Native.Nat.{ℕ, zero, suc, _-_, _^_, _/_, _%_}
-use lib.ListN.{length, take, drop, set, replicate}
+use lib.ListN.{take, drop, set, replicate}
 use Rattle.terms.specs.Tree.{preorder}
 use Rattle.terms.specs.Sheet.{nodesOf, Verdict, accepted, declined, sheetTree, sheetMask, sheetVerdict, wrapped}
 use Rattle.terms.specs.Check.{refusal}
 use Rattle.terms.specs.FormBytes.{formTree}
-use Rattle.terms.specs.Count.{Size, exact, over, sizeOf, sizeAnswer}
+use Rattle.terms.specs.Count.{Size, exact, sizeOf, sizeAnswer}
 use Rattle.terms.specs.Calls.{makingRefusal, markingRefusal, openingRefusal, readingRefusal, evaluationRefusal, relationsOf, formMask, sizeRefusal, unfoldingRefusal, labelRefusal, labelAt, countsOf, walkRefusal, wrapRefusal}
 
 -- the n bytes that a hexadecimal numeral writes, the first byte first (01 Sheets for the desk)
