@@ -1,0 +1,4 @@
+-- Laws of sheets: what the refusals 1 to 16 let through.
+pub mod Grammar
+pub mod Automaton
+pub mod Passed
