@@ -11,6 +11,11 @@ pub none-before : (n m : ℕ) → orElse n m ≡ 0 → (n ≡ 0) × (m ≡ 0)
 none-before zero m e = (refl, e)
 none-before (suc n) m e = absurd (omega arith)
 
+-- a row alone
+pub not-given : (n : ℕ) (b : Bool) → suc n when b ≡ 0 → b ≡ false
+not-given n true e = absurd (omega arith)
+not-given n false e = refl
+
 -- a row and what comes after it
 pub no-row : (n : ℕ) (b : Bool) (m : ℕ) → orElse (suc n when b) m ≡ 0 → (b ≡ false) × (m ≡ 0)
 no-row n true m e = absurd (omega arith)
