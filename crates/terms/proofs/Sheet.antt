@@ -2,3 +2,5 @@
 pub mod Grammar
 pub mod Automaton
 pub mod Passed
+pub mod Write
+pub mod Wrap

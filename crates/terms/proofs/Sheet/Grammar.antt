@@ -17,7 +17,7 @@ use Rattle.terms.specs.Check.{isOne, lone, ruleRefusal, rulesRefusal}
 use Rattle.terms.proofs.Test.{is-true, of-true, both-0, both-1, or-false, every-at}
 use Rattle.terms.proofs.Refusal.{none-before, no-row, none-at}
 
-one-whole : (w : Wholes) → isOne w ≡ true → w ≡ exactly 1
+pub one-whole : (w : Wholes) → isOne w ≡ true → w ≡ exactly 1
 one-whole (exactly n) e = ap exactly (eqb-true n 1 e)
 one-whole lacking e = absurd (of-true false e)
 
