@@ -1,0 +1,2 @@
+-- What the pass over a tree's nodes has seen.
+mod Seen
