@@ -1,0 +1,2 @@
+// The calls on a one-hole form.
+pub mod layout;
