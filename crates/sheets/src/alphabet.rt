@@ -4,13 +4,9 @@ ghost use lib.Dec.{leb};
 ghost use Rattle.terms.specs.Test.{all};
 ghost use Rattle.terms.specs.Grammar.{terminalRank};
 ghost use Rattle.terms.specs.Check.{highestRank, alphabetRefusal};
+use crate::limits::HIGHEST_RANK;
+use crate::limits::MOST_TERMINALS;
 use terms::Terminal;
-
-// The most terminals of an alphabet.
-const MOST_TERMINALS: usize = 32;
-
-// The highest rank of a terminal or a rule.
-pub const HIGHEST_RANK: u8 = 4;
 
 // No rank is above the highest.
 fn ranks_fit(alphabet: &[u8]) -> bool

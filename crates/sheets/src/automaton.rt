@@ -1,22 +1,16 @@
 // The automaton: its number of states, its final states, and its transitions, of 6 bytes each.
 ghost use mathlib.Core.Path.{_≡_};
-ghost use mathlib.Core.Bool.{not, _||_};
-ghost use Prim.Native.Nat.{_+_, _-_, _*_, _%_, _^_, _≤_};
-ghost use lib.Dec.{leb, ltb, eqb};
+ghost use Prim.Native.Nat.{_+_, _*_, _≤_};
 ghost use lib.ListN.{length};
 ghost use Rattle.terms.specs.Test.{every};
-ghost use Rattle.terms.specs.Refusal.{outside};
 ghost use Rattle.terms.specs.Sheet.{stateCount, transitionCount, transitionByte};
-ghost use Rattle.terms.specs.Check.{mostStates, mostTransitions, childFits, transitionFits, automatonRefusal};
+ghost use Rattle.terms.specs.Check.{childFits, transitionFits, wrongLength, wrongStates, automatonRefusal};
 use crate::alphabet;
+use crate::limits::HIGHEST_RANK;
+use crate::limits::MOST_STATES;
+use crate::limits::MOST_TRANSITIONS;
 use terms::State;
 use terms::Terminal;
-
-// The most states of an automaton.
-const MOST_STATES: u8 = 8;
-
-// The most transitions of an automaton.
-const MOST_TRANSITIONS: usize = 255;
 
 // How many bytes stand before the transitions: the number of states, and the final states.
 const HEAD: usize = 2;
@@ -25,7 +19,7 @@ const HEAD: usize = 2;
 const CHILDREN: usize = 2;
 
 // How many bytes a transition has: it has as many child states as the highest rank.
-const TRANSITION: usize = CHILDREN + alphabet::HIGHEST_RANK as usize;
+const TRANSITION: usize = CHILDREN + HIGHEST_RANK as usize;
 
 // What stands for an unused child state.
 const UNUSED: u8 = 0xFF;
@@ -56,7 +50,7 @@ fn children_fit(automaton: &[u8], i: usize, rank: u8) -> bool
     ensures { λ r. ⌜ r ≡ every 4 (λ j. childFits (stateCount (now (automaton .entry))) rank j (transitionByte (now (automaton .entry)) i (2 + j))) ⌝ }
 {
     let states = automaton[0];
-    let mut j = alphabet::HIGHEST_RANK;
+    let mut j = HIGHEST_RANK;
     while 0 < j {
         j -= 1;
         let child = State(automaton[HEAD + TRANSITION * i + (CHILDREN + j as usize)]);
@@ -100,7 +94,7 @@ fn transitions_fit(alphabet: &[u8], automaton: &[u8]) -> bool
 
 // The bytes are no head with whole transitions behind it, or the transitions are too many.
 fn wrong_length(automaton: &[u8]) -> bool
-    ensures { λ r. ⌜ (let a = now (automaton .entry) in r ≡ (ltb (length a) 2 || (not (eqb ((length a - 2) % 6) 0) || ltb mostTransitions (transitionCount a)))) ⌝ }
+    ensures { λ r. ⌜ r ≡ wrongLength (now (automaton .entry)) ⌝ }
 {
     let length = automaton.len();
     if length < HEAD {
@@ -114,7 +108,7 @@ fn wrong_length(automaton: &[u8]) -> bool
 
 // There are no states or too many, or a final state is none of them.
 fn wrong_states(states: u8, finals: u8) -> bool
-    ensures { λ r. ⌜ r ≡ (outside 1 mostStates states || leb (2 ^ states) finals) ⌝ }
+    ensures { λ r. ⌜ r ≡ wrongStates states finals ⌝ }
 {
     if states < 1 {
         return true;

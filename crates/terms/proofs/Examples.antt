@@ -2,7 +2,7 @@
 use mathlib.Core.Path.{_≡_, refl}
 use mathlib.Core.List.{List, map}
 use Rattle.terms.specs.Test.{any, all, some, every, tabulate}
-use Rattle.terms.specs.Bytes.{word, wordBytes}
+use Rattle.terms.specs.Bytes.{word}
 use Rattle.terms.specs.Tree.{preorder, preorders, firsts, rest, pick, forestOf, treeOf, taking, wholes, join}
 use Rattle.terms.specs.Context.{plug, compose, before, after}
 use Rattle.terms.specs.Grammar.{name, rankIn, rightSide, value, values, apply, derived}
@@ -27,5 +27,5 @@ CallsHold rows = map (λ r. r .gives) rows ≡ map (λ r. r .says) rows
 
 -- all rows hold
 pub table-holds : SheetsHold desk × SheetsHold sheetRefusals × CallsHold fieldRefusals × CallsHold calls
-unfolding any all some every tabulate word wordBytes preorder preorders firsts rest pick forestOf treeOf taking wholes join plug compose before after name rankIn rightSide value values apply derived bit has setOf allIn fires step mask masks entry treeIn contextIn treesAt valueOf valueAt matrix related composeBits applyBits statesAt relationOf relationAt body readRules rulesBody rulesOf nodesOf transitionCount transitionAt transitionsOf sheetTree sheetMask sheetVerdict sheetOf wrapped alphabetRefusal isTree treeRefusal transitionFits automatonRefusal ruleRefusal rulesRefusal joins refusal formRule formRules formTree ruleFits validFor formRefusal sizeAnswer makingRefusal markingRefusal openingRefusal readingRefusal evaluationRefusal relationsOf formMask sizeRefusal unfoldingRefusal labelRefusal labelAt countsOf walkRefusal wrapRefusal hex times outcome W K7 K8 desk sheetRefusals form fieldRefusals calls
+unfolding any all some every tabulate word preorder preorders firsts rest pick forestOf treeOf taking wholes join plug compose before after name rankIn rightSide value values apply derived bit has setOf allIn fires step mask masks entry treeIn contextIn treesAt valueOf valueAt matrix related composeBits applyBits statesAt relationOf relationAt body readRules rulesBody rulesOf nodesOf transitionCount transitionAt transitionsOf sheetTree sheetMask sheetVerdict sheetOf wrapped alphabetRefusal isTree treeRefusal transitionFits automatonRefusal ruleRefusal rulesRefusal joins refusal formRule formRules formTree ruleFits validFor formRefusal sizeAnswer makingRefusal markingRefusal openingRefusal readingRefusal evaluationRefusal relationsOf formMask sizeRefusal unfoldingRefusal labelRefusal labelAt countsOf walkRefusal wrapRefusal hex times outcome W K7 K8 desk sheetRefusals form fieldRefusals calls
 table-holds = (refl, refl, refl, refl)

@@ -4,3 +4,4 @@ pub mod Automaton
 pub mod Passed
 pub mod Write
 pub mod Wrap
+pub mod Bodies

@@ -8,5 +8,5 @@ unfoldable pub word : List ℕ → ℕ → ℕ
 word bytes i = getD bytes i 0 + 256 * getD bytes (i + 1) 0
 
 -- the two bytes of a number (01 head)
-unfoldable pub wordBytes : ℕ → List ℕ
+abbrev pub wordBytes : ℕ → List ℕ
 wordBytes n = n % 256 ∷ n / 256 % 256 ∷ []

@@ -1,9 +1,9 @@
 -- What each call refuses, in document 01's order ("Order: the table's"), and what it answers. A lent slice stands by its length.
 use mathlib.Core.Bool.{Bool, cond}
-use mathlib.Core.List.{List, [], _∷_}
-use Prim.Native.Nat.{ℕ, _*_, _-_, _^_, _/_, _%_}
+use mathlib.Core.List.{List, [], _∷_, _++_}
+use Prim.Native.Nat.{ℕ, zero, suc, _*_, _-_, _^_, _/_, _%_}
 use lib.Dec.{leb, ltb, eqb}
-use lib.ListN.{length, getD}
+use lib.ListN.{length, getD, drop}
 use Rattle.terms.specs.Test.{any, tabulate}
 use Rattle.terms.specs.Refusal.{_when_, first}
 use Rattle.terms.specs.Tree.{preorder}
@@ -13,6 +13,13 @@ use Rattle.terms.specs.Sheet.{nodesOf, transitionsOf, wrapped}
 use Rattle.terms.specs.Check.{alphabetRefusal, automatonRefusal, treeRefusal, refusal, mostNodes}
 use Rattle.terms.specs.FormBytes.{ruleCount, startOf, ruleOffset, formRules, formTree, formRefusal}
 use Rattle.terms.specs.Count.{ownNodes, nodesBefore, sizeOf, capped}
+
+-- Lent slices.
+
+-- a lent slice after a call: as it was where the call was refused, else what is written, its later elements kept (01 Refusals)
+abbrev pub lentAfter : ℕ → List ℕ → List ℕ → List ℕ
+lentAfter zero written entry = written ++ drop (length written) entry
+lentAfter (suc n) written entry = entry
 
 -- Form making and marking.
 

@@ -80,11 +80,19 @@ transitionFits alphabet a i =
     && (ltb (transitionByte a i 1) (stateCount a)
     && every 4 (λ j. childFits (stateCount a) (terminalRank alphabet (transitionByte a i 0)) j (transitionByte a i (2 + j))))
 
+-- the automaton has under 2 bytes, a cut transition or too many transitions (01 Refusals)
+abbrev pub wrongLength : List ℕ → Bool
+wrongLength a = ltb (length a) 2 || (not (eqb ((length a - 2) % 6) 0) || ltb mostTransitions (transitionCount a))
+
+-- the number of states or the set of final states is out of range (01 Refusals)
+abbrev pub wrongStates : ℕ → ℕ → Bool
+wrongStates states set = outside 1 mostStates states || leb (2 ^ states) set
+
 -- the refusal of an automaton over an alphabet: 14 to 16 (01 Refusals)
 unfoldable pub automatonRefusal : List ℕ → List ℕ → ℕ
 automatonRefusal alphabet a = first (
-    14 when (ltb (length a) 2 || (not (eqb ((length a - 2) % 6) 0) || ltb mostTransitions (transitionCount a)))
-    ∷ 15 when (outside 1 mostStates (stateCount a) || leb (2 ^ stateCount a) (finals a))
+    14 when (wrongLength a)
+    ∷ 15 when (wrongStates (stateCount a) (finals a))
     ∷ 16 when (not (every (transitionCount a) (transitionFits alphabet a)))
     ∷ [])
 

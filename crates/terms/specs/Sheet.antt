@@ -118,13 +118,16 @@ sheetVerdict s = cond (some 8 (λ q. has (sheetMask s) q && has (finals (automat
 
 -- Writing a sheet.
 
+-- the table of contents of three bodies with these lengths (01 Sheet)
+abbrev pub contentsOf : ℕ → ℕ → ℕ → List ℕ
+contentsOf alphabet rules automaton =
+    let r = contentsLength + alphabet in
+    let a = r + rules in
+    wordBytes contentsLength ++ (wordBytes alphabet ++ (wordBytes r ++ (wordBytes rules ++ (wordBytes a ++ wordBytes automaton))))
+
 -- a sheet of three bodies (01 Sheet)
 unfoldable pub sheetOf : List ℕ → List ℕ → List ℕ → List ℕ
-sheetOf alphabet rules automaton =
-    let r = contentsLength + length alphabet in
-    let a = r + length rules in
-    wordBytes contentsLength ++ (wordBytes (length alphabet) ++ (wordBytes r ++ (wordBytes (length rules) ++ (wordBytes a ++ (wordBytes (length automaton)
-    ++ (alphabet ++ (rules ++ automaton)))))))
+sheetOf alphabet rules automaton = contentsOf (length alphabet) (length rules) (length automaton) ++ (alphabet ++ (rules ++ automaton))
 
 -- a plain tree as a sheet of one rule (01 Size, label, wrap)
 unfoldable pub wrapped : List ℕ → List ℕ → List ℕ → List ℕ

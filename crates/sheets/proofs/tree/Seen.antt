@@ -13,7 +13,7 @@ use Rattle.terms.specs.Test.{all}
 use Rattle.terms.specs.Tree.{exactly, taking, wholes}
 use Rattle.terms.specs.Grammar.{terminalRank}
 use Rattle.terms.specs.Check.{isTree}
-use Rattle.sheets.proofs.Laws.{drop-back, all-part, wholes-part}
+use Rattle.terms.proofs.Scan.{drop-back, all-part, wholes-part}
 
 -- the symbol is a terminal of the alphabet
 abbrev known : List ℕ → ℕ → Bool

@@ -11,7 +11,7 @@ use Rattle.terms.specs.Refusal.{outside}
 use Rattle.terms.specs.Grammar.{Proper}
 use Rattle.terms.specs.Automaton.{Small}
 use Rattle.terms.specs.Sheet.{body, alphabetOf, rulesOf, automatonOf, transitionsOf}
-use Rattle.terms.specs.Check.{alphabetRefusal, rulesRefusal, automatonRefusal, joins, refusal}
+use Rattle.terms.specs.Check.{isTree, treeRefusal, alphabetRefusal, rulesRefusal, automatonRefusal, joins, refusal}
 use Rattle.terms.proofs.Test.{of-true, or-false}
 use Rattle.terms.proofs.Refusal.{none-before, no-row}
 use Rattle.terms.proofs.Sheet.Grammar.{rules-passed}
@@ -31,6 +31,18 @@ alphabet-passed alphabet e =
     let e4 = no-row 3 (not low) _ r3 .0 in
     let (some, few) = or-false (ltb (length alphabet) 1) (ltb 32 (length alphabet)) e3 in
     record { some = ltb-false _ _ some; few = ltb-false _ _ few; ranks = of-true low (not-false _ e4) }
+
+-- a preorder tree that passes 22 and 23
+pub record TreePassed (most : ℕ) (alphabet tree : List ℕ) : Type 0 where
+  pub short : length tree ≤ most
+  pub one : T (isTree alphabet tree)
+
+pub tree-passed : (most : ℕ) (alphabet tree : List ℕ) → treeRefusal most alphabet tree ≡ 0 → TreePassed most alphabet tree
+unfolding treeRefusal
+tree-passed most alphabet tree e =
+    let (e22, r22) = no-row 21 (ltb most (length tree)) _ e in
+    let e23 = no-row 22 (not (isTree alphabet tree)) _ r22 .0 in
+    record { short = ltb-false most (length tree) e22; one = of-true (isTree alphabet tree) (not-false _ e23) }
 
 -- a sheet that passes 1 to 16
 pub record SheetPassed (s : List ℕ) : Type 0 where

@@ -1,28 +1,28 @@
 -- A plain tree that is wrapped into a sheet: the sheet is not refused, its bodies are those given, and its tree is the tree given.
 use mathlib.Core.Path.{_≡_, refl, sym, ap, subst, _∙_}
-use mathlib.Core.Bool.{Bool, true, false, not}
+use mathlib.Core.Bool.{Bool, true, false}
 use mathlib.Core.List.{List, [], _∷_}
 use Prim.Native.Nat.{ℕ, _+_, _≤_, _<_}
 use native.Mathlib.Omega.{arith}
 use lib.Dec.{T, ltb, ltb→lt}
 use lib.ListN.{length}
 use lib.Seq.{take-length, drop-length}
-use borrow.Author.Tests.{le-leb, le-ltb, ltb-false, not-false}
+use borrow.Author.Tests.{le-leb, le-ltb, ltb-false}
 use Rattle.terms.specs.Test.{all, every, tabulate}
 use Rattle.terms.specs.Tree.{Tree, Forest, node, none, more, preorder, preorders, pick, forestOf, treeOf, exactly, wholes}
 use Rattle.terms.specs.Grammar.{terminal, name, Rule, terminalRank, rankIn, rightSide, allowed, allAllowed, apply, derived, Terminals, AllTerminals}
 use Rattle.terms.specs.Sheet.{RulesBody, readRules, rulesBody, rulesOf, alphabetOf, automatonOf, sheetTree, wrapped}
 use Rattle.terms.specs.Check.{isOne, isTree, lone, ruleRefusal, rulesRefusal, alphabetRefusal, automatonRefusal, treeRefusal, refusal}
 use Rattle.terms.specs.Calls.{wrapRefusal}
-use Rattle.terms.proofs.Test.{is-true, of-true, both, both-0, both-1, parts, all-append}
+use Rattle.terms.proofs.Test.{is-true, both, both-0, both-1, parts, all-append}
 use Rattle.terms.proofs.Refusal.{none-before, no-row}
 use Rattle.terms.proofs.Tree.Whole.{preorder-tree}
 use Rattle.terms.proofs.Grammar.Name.{name-terminal}
 use Rattle.terms.proofs.Grammar.Value.{value-terminals}
-use Rattle.terms.proofs.Sheet.Passed.{alphabet-passed}
+use Rattle.terms.proofs.Sheet.Passed.{alphabet-passed, tree-passed}
 use Rattle.terms.proofs.Sheet.Automaton.{automaton-passed}
 use Rattle.terms.proofs.Sheet.Grammar.{one-whole}
-use Rattle.terms.proofs.Sheet.Write.{written-alphabet, written-rules, written-automaton, written-passes}
+use Rattle.terms.proofs.Sheet.Write.{length-sheet, written-alphabet, written-rules, written-automaton, written-passes}
 
 -- the one rule of the sheet
 abbrev pub single : List ℕ → List Rule
@@ -106,6 +106,50 @@ module _ (alphabet : List ℕ) (few : length alphabet ≤ 32) where
         let t = pick (forestOf (terminalRank alphabet) tree) 0 in
         rw (forest-known (single tree) tree known) (value-terminals _ none t (terminals-known t (subst (λ (fs : List ℕ). T (all Known fs)) (sym (preorder-tree (terminalRank alphabet) tree whole)) known)))
 
+-- what passes is short
+pub record WrapLengths (alphabet tree automaton : List ℕ) : Type 0 where
+  pub terminals : length alphabet ≤ 32
+  pub nodes : length tree ≤ 128
+  pub automaton-bytes : length automaton ≤ 1532
+  pub sheet-bytes : length (wrapped alphabet tree automaton) ≡ 12 + (length alphabet + (2 + length tree + length automaton))
+
+pub wrap-lengths : (alphabet tree automaton : List ℕ) → alphabetRefusal alphabet ≡ 0 → treeRefusal 128 alphabet tree ≡ 0
+    → automatonRefusal alphabet automaton ≡ 0 → WrapLengths alphabet tree automaton
+unfolding wrapped
+wrap-lengths alphabet tree automaton ea et em =
+    let a = alphabet-passed alphabet ea in
+    let t = tree-passed 128 alphabet tree et in
+    let m = automaton-passed alphabet automaton em in
+    record {
+      terminals = a .few;
+      nodes = t .short;
+      automaton-bytes = omega arith;
+      sheet-bytes = omega (arith, length-sheet alphabet (0 ∷ length tree ∷ tree) automaton (omega arith));
+    }
+
+-- what is known where wrap refuses nothing
+pub record WrapPassed (alphabet tree automaton : List ℕ) (room : ℕ) : Type 0 where
+  pub alphabet-passes : alphabetRefusal alphabet ≡ 0
+  pub tree-passes : treeRefusal 128 alphabet tree ≡ 0
+  pub automaton-passes : automatonRefusal alphabet automaton ≡ 0
+  pub lengths : WrapLengths alphabet tree automaton
+  pub fits : length (wrapped alphabet tree automaton) ≤ room
+
+pub wrap-passed : (alphabet tree automaton : List ℕ) (room : ℕ) → wrapRefusal alphabet tree automaton room ≡ 0 → WrapPassed alphabet tree automaton room
+unfolding wrapRefusal
+wrap-passed alphabet tree automaton room e =
+    let (ea, r1) = none-before (alphabetRefusal alphabet) _ e in
+    let (et, r2) = none-before (treeRefusal 128 alphabet tree) _ r1 in
+    let (em, r3) = none-before (automatonRefusal alphabet automaton) _ r2 in
+    let e24 = no-row 23 (ltb room (length (wrapped alphabet tree automaton))) _ r3 .0 in
+    record {
+      alphabet-passes = ea;
+      tree-passes = et;
+      automaton-passes = em;
+      lengths = wrap-lengths alphabet tree automaton ea et em;
+      fits = ltb-false room (length (wrapped alphabet tree automaton)) e24;
+    }
+
 -- what wrap writes
 pub record Wrapped (alphabet tree automaton : List ℕ) : Type 0 where
   pub passes : refusal (wrapped alphabet tree automaton) ≡ 0
@@ -115,14 +159,14 @@ pub record Wrapped (alphabet tree automaton : List ℕ) : Type 0 where
   pub tree-given : preorder (sheetTree (wrapped alphabet tree automaton)) ≡ tree
 
 pub wrap-right : (alphabet tree automaton : List ℕ) (room : ℕ) → wrapRefusal alphabet tree automaton room ≡ 0 → Wrapped alphabet tree automaton
-unfolding wrapRefusal wrapped treeRefusal sheetTree rulesOf
+unfolding wrapped sheetTree rulesOf
 wrap-right alphabet tree automaton room e =
-    let (ea, r1) = none-before (alphabetRefusal alphabet) _ e in
-    let (et, r2) = none-before (treeRefusal 128 alphabet tree) _ r1 in
-    let em = none-before (automatonRefusal alphabet automaton) _ r2 .0 in
-    let (long, r3) = no-row 21 (ltb 128 (length tree)) _ et in
-    let one = of-true (isTree alphabet tree) (not-false _ (no-row 22 (not (isTree alphabet tree)) _ r3 .0)) in
-    let short = ltb-false 128 (length tree) long in
+    let p = wrap-passed alphabet tree automaton room e in
+    let ea = p .alphabet-passes in
+    let em = p .automaton-passes in
+    let t = tree-passed 128 alphabet tree (p .tree-passes) in
+    let short = t .short in
+    let one = t .one in
     let a = alphabet-passed alphabet ea in
     let m = automaton-passed alphabet automaton em in
     let rules : List ℕ = 0 ∷ length tree ∷ tree in

@@ -7,7 +7,7 @@ use native.Mathlib.Omega.{arith}
 use borrow.Author.Tests.{le-ltb, eq-eqb}
 use lib.ListN.{length, drop, length-append}
 use lib.Seq.{take-append-seam, drop-append-seam, drop-drop, take-length}
-use Rattle.terms.specs.Bytes.{word, wordBytes}
+use Rattle.terms.specs.Bytes.{word}
 use Rattle.terms.specs.Sheet.{bodyOffset, bodyLength, body, sheetOf}
 use Rattle.terms.specs.Check.{alphabetRefusal, rulesRefusal, automatonRefusal, joins, refusal}
 use Rattle.terms.proofs.Sheet.Passed.{alphabet-passed}
@@ -20,36 +20,36 @@ module _ (alphabet rules automaton : List ℕ) (fits : 12 + (length alphabet + (
   abbrev s : List ℕ
   s = sheetOf alphabet rules automaton
 
-  length-sheet : length s ≡ 12 + (length alphabet + (length rules + length automaton))
-  unfolding sheetOf wordBytes
+  pub length-sheet : length s ≡ 12 + (length alphabet + (length rules + length automaton))
+  unfolding sheetOf
   length-sheet = omega (arith, length-append alphabet (rules ++ automaton), length-append rules automaton)
 
   behind : drop 12 s ≡ alphabet ++ (rules ++ automaton)
-  unfolding sheetOf wordBytes
+  unfolding sheetOf
   behind = refl
 
   offset-0 : bodyOffset s 0 ≡ 12
-  unfolding sheetOf wordBytes word
+  unfolding sheetOf word
   offset-0 = refl
 
   length-0 : bodyLength s 0 ≡ length alphabet
-  unfolding sheetOf wordBytes word
+  unfolding sheetOf word
   length-0 = word-back (length alphabet) (omega arith)
 
   offset-1 : bodyOffset s 1 ≡ 12 + length alphabet
-  unfolding sheetOf wordBytes word
+  unfolding sheetOf word
   offset-1 = word-back (12 + length alphabet) (omega arith)
 
   length-1 : bodyLength s 1 ≡ length rules
-  unfolding sheetOf wordBytes word
+  unfolding sheetOf word
   length-1 = word-back (length rules) (omega arith)
 
   offset-2 : bodyOffset s 2 ≡ 12 + length alphabet + length rules
-  unfolding sheetOf wordBytes word
+  unfolding sheetOf word
   offset-2 = word-back (12 + length alphabet + length rules) (omega arith)
 
   length-2 : bodyLength s 2 ≡ length automaton
-  unfolding sheetOf wordBytes word
+  unfolding sheetOf word
   length-2 = word-back (length automaton) (omega arith)
 
   pub written-alphabet : body s 0 ≡ alphabet

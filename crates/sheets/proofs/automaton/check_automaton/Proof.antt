@@ -6,13 +6,13 @@ use native.Mathlib.Omega.{arith}
 use borrow.Author.Tests.{ltb-false}
 use lib.Dec.{ltb, lit<}
 use Rattle.terms.specs.Check.{automatonRefusal}
-use Rattle.sheets.proofs.Laws.{or-false-left}
+use Rattle.terms.proofs.Test.{or-false}
 use Rattle.sheets.proofs.automaton.check_automaton.Statement.{statement}
 use Rattle.sheets.proofs.automaton.check_automaton.Tie as tie
 
 -- byte k of the head is there
 has-head : (k n : ℕ) (wrong others : Bool) → k < 2 → wrong ≡ ltb n 2 || others → wrong ≡ false → k < n
-has-head k n wrong others h e left = omega (arith, ltb-false n 2 (or-false-left (ltb n 2) others (sym e ∙ left)))
+has-head k n wrong others h e left = omega (arith, ltb-false n 2 (or-false (ltb n 2) others (sym e ∙ left) .0))
 
 wrong-length-requires : tie.Need-wrong-length-requires
 wrong-length-requires c κs = tt

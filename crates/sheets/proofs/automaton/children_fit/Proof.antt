@@ -8,7 +8,7 @@ use borrow.Author.Tests.{not-true, not-false}
 use Rattle.terms.specs.Test.{every}
 use Rattle.terms.specs.Sheet.{stateCount, transitionByte}
 use Rattle.terms.specs.Check.{childFits}
-use Rattle.sheets.proofs.Laws.{every-fails, every-passes, every-done}
+use Rattle.terms.proofs.Scan.{every-fails, every-passes, every-done}
 use Rattle.sheets.proofs.automaton.children_fit.Statement.{statement}
 use Rattle.sheets.proofs.automaton.children_fit.Tie as tie
 

@@ -7,7 +7,7 @@ use borrow.Author.Tests.{not-true, not-false}
 use Rattle.terms.specs.Test.{every}
 use Rattle.terms.specs.Sheet.{transitionCount}
 use Rattle.terms.specs.Check.{transitionFits}
-use Rattle.sheets.proofs.Laws.{every-fails, every-passes, every-done}
+use Rattle.terms.proofs.Scan.{every-fails, every-passes, every-done}
 use Rattle.sheets.proofs.automaton.transitions_fit.Statement.{statement}
 use Rattle.sheets.proofs.automaton.transitions_fit.Tie as tie
 

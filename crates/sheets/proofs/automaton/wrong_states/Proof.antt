@@ -1,9 +1,16 @@
 -- `sheets::automaton::wrong_states` meets its contract: the tests are those of the definition, in its order, and a 1 shifted by at most 8 places is that power of 2.
+use mathlib.Core.Path.{_≡_}
+use Prim.Native.Nat.{ℕ, _*_, _%_, _^_, _<_}
+use native.Mathlib.Nat.{one-mul, mod-eq-of-lt}
 use native.Mathlib.Omega.{arith}
+use lib.Pow.{pow-lt}
 use borrow.Author.Tests.{lt-ltb, le-ltb}
-use Rattle.sheets.proofs.Laws.{one-shifted}
 use Rattle.sheets.proofs.automaton.wrong_states.Statement.{statement}
 use Rattle.sheets.proofs.automaton.wrong_states.Tie as tie
+
+-- a 1 shifted by k places in a word of w bits
+one-shifted : (w k : ℕ) → k < w → (1 * 2 ^ k) % 2 ^ w ≡ 2 ^ k
+one-shifted w k h = rw (one-mul, mod-eq-of-lt (pow-lt h))
 
 returns : tie.Need-returns
 returns c = rw (lt-ltb _ _ (c .if1 .taken))

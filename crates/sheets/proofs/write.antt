@@ -1,0 +1,2 @@
+-- Laws for writing a sheet.
+pub mod Pieces
