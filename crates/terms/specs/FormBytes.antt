@@ -72,10 +72,13 @@ callsLower form i k a = ltb a i && eqb (rankAt form a) k
 abbrev pub unusedSlot : ℕ → Bool
 unusedSlot a = eqb a 0xFFFF
 
--- the slots of f(A1..An), the open place at child h, 0 where there is none: a used slot has rank 0 (01 One-hole form)
+-- slot j of rule i, f(A1..An), the open place at child h, 0 where there is none: used, it has rank 0 (01 One-hole form)
+abbrev pub slotFits : List ℕ → ℕ → ℕ → ℕ → ℕ → Bool
+slotFits form i n h j = cond (ltb j n && not (eqb (suc j) h)) (callsLower form i 0 (slotOf form i j)) (unusedSlot (slotOf form i j))
+
+-- the slots of f(A1..An) all fit (01 One-hole form)
 abbrev pub slotsFit : List ℕ → ℕ → ℕ → ℕ → Bool
-slotsFit form i n h =
-    every 4 (λ j. cond (ltb j n && not (eqb (suc j) h)) (callsLower form i 0 (slotOf form i j)) (unusedSlot (slotOf form i j)))
+slotsFit form i n h = every 4 (slotFits form i n h)
 
 -- kinds 2 and 3: no terminal, no hole, B of rank 1 and C of rank k (01 One-hole form)
 abbrev pub chainFits : List ℕ → ℕ → ℕ → ℕ → ℕ → Bool

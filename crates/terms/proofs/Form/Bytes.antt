@@ -1,6 +1,6 @@
 -- The rules that the bytes of a valid form say are a valid form, of which the start derives a tree.
 use mathlib.Core.Path.{_≡_, refl, ap, _∙_}
-use mathlib.Core.Bool.{cond, not, _&&_}
+use mathlib.Core.Bool.{not, _&&_}
 use mathlib.Core.List.{List, [], _∷_}
 use Prim.Native.Nat.{ℕ, zero, suc, _+_, _-_, _≤_, _<_}
 use native.Mathlib.Omega.{arith}
@@ -11,7 +11,7 @@ use Rattle.terms.specs.Test.{all, every, tabulate}
 use Rattle.terms.specs.Refusal.{outside}
 use Rattle.terms.specs.Grammar.{terminalRank}
 use Rattle.terms.specs.Form.{Rule, whole, pierced, ruleAt, holes, Has, Slots, Fits, Valid}
-use Rattle.terms.specs.FormBytes.{ruleCount, startOf, ruleOffset, ruleByte, slotOf, kindRank, rankAt, ruleOfKind, formRule, formRules, callsLower, unusedSlot, slotsFit, chainFits, kindFits, ruleFits, validFor, formRefusal}
+use Rattle.terms.specs.FormBytes.{ruleCount, startOf, ruleOffset, ruleByte, slotOf, kindRank, rankAt, ruleOfKind, formRule, formRules, callsLower, unusedSlot, slotFits, slotsFit, chainFits, kindFits, ruleFits, validFor, formRefusal}
 use Rattle.terms.proofs.Test.{is-true, of-true, both-0, both-1, parts, or-false, every-at}
 use Rattle.terms.proofs.Tabulate.{length-tabulate, getD-tabulate}
 use Rattle.terms.proofs.Refusal.{not-given}
@@ -68,7 +68,7 @@ module _ (alphabet form : List ℕ) (low : (f : ℕ) → terminalRank alphabet f
     -- a slot of f(A1..An) that is no hole
     slot-has : (j : ℕ) → j < 4 → j < n → (suc j ≡ h → ⊥) → Has rules i 0 (slotOf form i j)
     slot-has j b m ne =
-        let s = every-at 4 (λ j. cond (ltb j n && not (eqb (suc j) h)) (callsLower form i 0 (slotOf form i j)) (unusedSlot (slotOf form i j))) fits j b in
+        let s = every-at 4 (slotFits form i n h) fits j b in
         calls i 0 (slotOf form i j) (omega arith) (rw (lt-ltb j n m, ne-eqb (suc j) h ne) at s)
 
   -- f(A1..An), with the open place at child h, or with none where h is 0

@@ -1,0 +1,59 @@
+-- `forms::rule::read_rule` meets its contract: the tests are those of the definition, in its order. A form that opens has a head, and room for each of its rules.
+use mathlib.Core.Path.{_≡_, refl, sym, _∙_}
+use Prim.Native.Nat.{ℕ, zero, suc}
+use native.Mathlib.Omega.{arith}
+use borrow.Author.Needs.{needs}
+use borrow.Author.Tests.{le-leb, lt-leb}
+use Rattle.terms.specs.Calls.{readingRefusal}
+use Rattle.forms.specs.declared.rule.FormRule.{FormRule}
+use Rattle.forms.specs.declared.rule.RuleReading.the-variants.{Refused}
+use Rattle.forms.specs.Reading.{orRule, ruleReading}
+use Rattle.forms.proofs.Laws.{opened}
+use Rattle.terms.proofs.Refusal.{stops}
+use Rattle.forms.proofs.rule.read_rule.Statement.{statement}
+use Rattle.forms.proofs.rule.read_rule.Tie as tie
+
+-- a refusal is answered in place of the rule
+no-rule : (n : ℕ) (rule : FormRule) → (n ≡ 0 → ⊥) → orRule n rule ≡ Refused n
+no-rule zero rule h = absurd (h refl)
+no-rule (suc n) rule h = refl
+
+check-opening-requires : tie.Need-check-opening-requires
+check-opening-requires c κs = tt
+
+returns : tie.Need-returns
+unfolding ruleReading readingRefusal
+returns c = rw (← c .before .check-opening .ensures, stops _ _ (c .if1 .taken)) (sym (no-rule _ _ (c .if1 .taken)))
+
+rule-count-requires : tie.Need-rule-count-requires
+rule-count-requires c κs = omega (arith, opened _ _ (sym (c .before .check-opening .ensures) ∙ c .if1 .left) .long)
+
+cast-if2 : tie.Need-cast-if2
+cast-if2 c = search needs
+
+returns-2 : tie.Need-returns-2
+unfolding ruleReading readingRefusal
+returns-2 c =
+    let opens = c .before .before .before in
+    rw (← opens .before .check-opening .ensures, opens .if1 .left, ← c .before .before .rule-count .ensures .0, le-leb _ _ (c .if2 .taken))
+
+rule-at-requires : tie.Need-rule-at-requires
+rule-at-requires c κs =
+    let opens = c .before .before .before in
+    omega (arith, opened _ _ (sym (opens .before .check-opening .ensures) ∙ opens .if1 .left) .long)
+
+returns-3 : tie.Need-returns-3
+unfolding ruleReading readingRefusal
+returns-3 c =
+    let inside = c .before in
+    let opens = inside .before .before .before in
+    rw (
+      c .rule-at .ensures,
+      ← opens .before .check-opening .ensures,
+      opens .if1 .left,
+      ← inside .before .before .rule-count .ensures .0,
+      lt-leb _ _ (inside .if2 .left),
+    )
+
+pub read-rule-spec : {M : Type 1} → statement M
+read-rule-spec = tie.close (tie.spec check-opening-requires returns rule-count-requires cast-if2 returns-2 rule-at-requires returns-3)
