@@ -1,4 +1,10 @@
 // The calls on a one-hole form.
+pub mod answer;
 pub mod check;
+pub mod counts;
+pub mod label;
 pub mod layout;
+pub mod place;
 pub mod rule;
+pub mod size;
+pub mod unfold;

@@ -1,6 +1,5 @@
 -- `examples::is_filled` is safe and ends: i is at most the length, or where it started.
 use Prim.Native.Nat.{_-_}
-use native.Mathlib.Omega.{arith}
 use borrow.Author.Needs.{needs}
 use lib.ListN.{length}
 use Rattle.examples.proofs.is_filled.Statement.{statement}

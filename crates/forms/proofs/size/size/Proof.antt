@@ -1,0 +1,76 @@
+-- `forms::size::size` meets its contract: the first count of the start is the size of the tree, capped.
+use mathlib.Core.Path.{_≡_, sym, _∙_}
+use native.Mathlib.Omega.{arith}
+use borrow.Author.Needs.{needs}
+use lib.ListN.{length}
+use Rattle.terms.specs.FormBytes.{formTree}
+use Rattle.terms.specs.Count.{sizeOf, capped}
+use Rattle.terms.specs.Calls.{sizeRefusal}
+use Rattle.forms.proofs.Rules.{head-long}
+use Rattle.forms.proofs.Answers.{Sizable, size-passed, start-low, start-count, size-refuses, size-over, size-exact}
+use Rattle.forms.proofs.size.size.Statement.{statement}
+use Rattle.forms.proofs.size.size.Tie as tie
+
+-- nothing is refused
+none : (c : tie.Else1) → let a = c .before .before .before .before .before .args in sizeRefusal (a .alphabet .now) (a .form .now) (length (a .counts .now)) ≡ 0
+none c = sym (c .before .check-size .ensures) ∙ c .if1 .left
+
+passes : (c : tie.Else1) → let a = c .before .before .before .before .before .args in Sizable (a .alphabet .now) (a .form .now) (length (a .counts .now))
+passes c = size-passed _ _ _ (none c)
+
+abbrev passed-before : tie.After-own-of → tie.Else1
+passed-before c = c .before .before .before .before .before .before .before
+
+nodes-are : (c : tie.After-own-of) → let a = passed-before c .before .before .before .before .before .args in c .own-of .result ≡ capped (sizeOf (formTree (a .alphabet .now) (a .form .now)))
+nodes-are c =
+    let p = passes (passed-before c) in
+    c .own-of .ensures ∙ start-count _ _ (p .ranked) (p .valid) _ _ (c .before .before .before .before .before .count-nodes .ensures) _ (c .before .start-of .ensures)
+
+check-size-requires : tie.Need-check-size-requires
+check-size-requires c κs = search needs
+
+returns : tie.Need-returns
+returns c = size-refuses _ _ _ _ (c .before .check-size .ensures) (c .if1 .taken)
+
+count-nodes-requires : tie.Need-count-nodes-requires
+count-nodes-requires c κs = let p = passes (c .before) in (p .ranked, p .valid, p .room)
+
+start-of-requires : tie.Need-start-of-requires
+start-of-requires c κs = let p = passes (c .before .before .before .before .before) in head-long _ _ (p .ranked) (p .valid)
+
+own-of-requires : tie.Need-own-of-requires
+own-of-requires c κs =
+    let p = passes (c .before .before .before .before .before .before) in
+    omega (arith, start-low _ _ (p .ranked) (p .valid), c .start-of .ensures, c .before .before .before .before .count-nodes .kept .1 .1 .0, p .room)
+
+same-length : tie.Need-same-length
+same-length c = search needs
+
+returns-2 : tie.Need-returns-2
+returns-2 c =
+    let opened = passed-before (c .before) in
+    let e = none opened in
+    (size-over _ _ (opened .before .before .before .before .before .args .counts .now) e _ (nodes-are (c .before)) (c .if2 .taken), rw e (c .before .before .before .before .before .before .count-nodes .ensures))
+
+same-length-2 : tie.Need-same-length-2
+same-length-2 c = search needs
+
+returns-3 : tie.Need-returns-3
+returns-3 c =
+    let opened = passed-before (c .before) in
+    let e = none opened in
+    (size-exact _ _ (opened .before .before .before .before .before .args .counts .now) e _ (nodes-are (c .before)) (c .if2 .left), rw e (c .before .before .before .before .before .before .count-nodes .ensures))
+
+pub size-spec : {M : Type 1} → statement M
+size-spec =
+    tie.close
+    (tie.spec
+    check-size-requires
+    returns
+    count-nodes-requires
+    start-of-requires
+    own-of-requires
+    same-length
+    returns-2
+    same-length-2
+    returns-3)

@@ -1,0 +1,62 @@
+-- What each of the two functions may assume at a measure, and what a call of it asks below that measure. A rule calls lower rules only, so twice its number falls,
+-- with one more for `write_rule`, which calls `write_slots` of the same rule.
+use Prim.Native.Nat.{ℕ, _+_, _*_, _<_}
+use borrow.Fn.Kinds.{In}
+use borrow.Fn.PlainCycle.{Measures, is, falls, and}
+use Rattle.forms.proofs.unfold.write_rule.Reads as write-rule
+use Rattle.forms.proofs.unfold.write_rule.Kinds as write-rule-kinds
+use Rattle.forms.proofs.unfold.+write_rule+write_slots.Lts-write_rule as rule-lts
+use Rattle.forms.proofs.unfold.write_slots.Reads as write-slots
+use Rattle.forms.proofs.unfold.write_slots.Kinds as write-slots-kinds
+use Rattle.forms.proofs.unfold.+write_rule+write_slots.Lts-write_slots as slots-lts
+use Rattle.forms.proofs.layout.hole_of.Reads as hole-of
+use Rattle.forms.proofs.layout.kind_of.Reads as kind-of
+use Rattle.forms.proofs.layout.slot_of.Reads as slot-of
+use Rattle.forms.proofs.layout.terminal_of.Reads as terminal-of
+use Rattle.forms.proofs.unfold.nodes_before.Reads as nodes-before
+use Rattle.forms.proofs.unfold.own_nodes.Reads as own-nodes
+use Rattle.sheets.proofs.alphabet.rank_of.Reads as rank-of
+
+abbrev pub μ-rule : Measures 4 write-rule-kinds.ps ℕ
+μ-rule κs a = 2 * a .1 .1 .1 .0 .0 + 1
+
+abbrev pub μ-slots : Measures 4 write-slots-kinds.ps ℕ
+μ-slots κs a = 2 * a .1 .1 .1 .0 .0
+
+module _ (t : ℕ) where
+  abbrev pub rule-at : In 4 write-rule-kinds.ps
+  rule-at = and 4 write-rule-kinds.ps (is 4 write-rule-kinds.ps μ-rule t) write-rule.Pre
+
+  abbrev pub rule-below : In 4 write-rule-kinds.ps
+  rule-below = and 4 write-rule-kinds.ps (falls 4 write-rule-kinds.ps _<_ μ-rule t) write-rule.Pre
+
+  abbrev pub slots-at : In 4 write-slots-kinds.ps
+  slots-at = and 4 write-slots-kinds.ps (is 4 write-slots-kinds.ps μ-slots t) write-slots.Pre
+
+  abbrev pub slots-below : In 4 write-slots-kinds.ps
+  slots-below = and 4 write-slots-kinds.ps (falls 4 write-slots-kinds.ps _<_ μ-slots t) write-slots.Pre
+
+  abbrev pub slots-claims : slots-lts.Claims
+  slots-claims = (slot-of.Asked, slot-of.Learnt, rule-below, write-rule.Post, own-nodes.Asked, own-nodes.Learnt)
+
+  abbrev pub rule-claims : rule-lts.Claims
+  rule-claims = (
+    kind-of.Asked,
+    kind-of.Learnt,
+    slot-of.Asked,
+    slot-of.Learnt,
+    nodes-before.Asked,
+    nodes-before.Learnt,
+    own-nodes.Asked,
+    own-nodes.Learnt,
+    rule-below,
+    write-rule.Post,
+    terminal-of.Asked,
+    terminal-of.Learnt,
+    rank-of.Asked,
+    rank-of.Learnt,
+    slots-below,
+    write-slots.Post,
+    hole-of.Asked,
+    hole-of.Learnt,
+  )

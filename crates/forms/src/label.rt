@@ -1,0 +1,52 @@
+// The terminal at a preorder position of the tree that a form derives, without unfolding it.
+use crate::answer::Label;
+use crate::counts;
+use crate::layout;
+use crate::place;
+use crate::place::Found;
+use crate::place::Place;
+use crate::size;
+use terms::Rule;
+use terms::Terminal;
+ghost use mathlib.Core.Path.{_≡_};
+ghost use lib.ListN.{length};
+ghost use Rattle.terms.specs.Calls.{labelRefusal};
+ghost use Rattle.forms.specs.Position.{Position, symbolAt};
+ghost use Rattle.forms.specs.Answer.{labelCall, countsLeft};
+
+// The most counts of a form: two for each of 2,048 rules.
+const MOST_COUNTS: usize = 4096;
+
+// The terminal at a position of a rule.
+pub fn label_in(alphabet: &[u8], form: &[u8], counts: &[u64], rule: Rule, position: u64) -> Terminal
+    requires { ⌜ Position (now alphabet) (now form) (now counts) (rule .0) position ⌝ }
+    ensures { λ r. ⌜ r .0 ≡ symbolAt (now (alphabet .entry)) (now (form .entry)) (rule .0) position ⌝ }
+{
+    let mut at = Place { rule, position };
+    loop {
+        match place::follow(alphabet, form, counts, at) {
+            Found::At(terminal) => return terminal,
+            Found::In(lower) => at = lower,
+        }
+    }
+}
+
+// The terminal at a position, the root being 0. A position past the end is refused when the counts are known,
+// so these go to the slice that is lent only then: a refusal leaves it as it was.
+pub fn label(alphabet: &[u8], form: &[u8], position: u64, counts: &mut [u64]) -> Label
+    ensures { λ r. ⌜ r ≡ labelCall (now (alphabet .entry)) (now (form .entry)) position (length (now (counts .entry))) ⌝ }
+    ensures { λ r. ⌜ now (counts .exit) ≡ countsLeft (labelRefusal (now (alphabet .entry)) (now (form .entry)) position (length (now (counts .entry)))) (now (alphabet .entry)) (now (form .entry)) (now (counts .entry)) ⌝ }
+{
+    let refusal = size::check_size(alphabet, form, counts.len());
+    if refusal != 0 {
+        return Label::Refused(refusal);
+    }
+    let mut known = [0u64; MOST_COUNTS];
+    counts::count_nodes(alphabet, form, &mut known);
+    let start = layout::start_of(form);
+    if counts::own_of(&known, start) <= position {
+        return Label::Refused(21);
+    }
+    counts::copy_counts(&known, 2 * layout::rule_count(form), counts);
+    Label::At(label_in(alphabet, form, counts, start, position))
+}
