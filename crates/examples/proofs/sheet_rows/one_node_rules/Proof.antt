@@ -1,11 +1,11 @@
--- `examples::one_node_rules` is safe and ends: the array keeps its length.
+-- `examples::sheet_rows::one_node_rules` is safe and ends: the array keeps its length.
 use mathlib.Core.Path.{_≡_}
 use Prim.Native.Nat.{_-_, _≤_}
 use native.Mathlib.Omega.{arith}
 use borrow.Author.Needs.{needs}
 use lib.ListN.{length, length-set}
-use Rattle.examples.proofs.one_node_rules.Statement.{statement}
-use Rattle.examples.proofs.one_node_rules.Tie as tie
+use Rattle.examples.proofs.sheet_rows.one_node_rules.Statement.{statement}
+use Rattle.examples.proofs.sheet_rows.one_node_rules.Tie as tie
 
 abbrev Inv-loop : tie.InvT-loop
 Inv-loop rules₀ i₀ rules i = (length rules ≡ 195) × (i ≤ 65)
