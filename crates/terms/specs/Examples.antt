@@ -95,6 +95,12 @@ desk =
     ∷ marks K8 declined 0 4 (hex 4 0x01020000)
     ∷ []
 
+-- a worked example of the papers: S is X(X(a, b), X(b, a)), X(y1, y2) is h(i(y1), i(y2)); no transitions (000 §5, Example 6)
+unfoldable pub papers : List SheetRow
+papers =
+    marks (hex 34 0x0C00_0400_1000_1000_2000_0200_00000201_02050203800381_000740400001400100_0100) declined 0 13 (hex 13 0x02030203000301030203010300)
+    ∷ []
+
 -- refusals 1 to 16: an example, and a row for each other thing that the number's test looks at (01 Refusals)
 unfoldable pub sheetRefusals : List SheetRow
 sheetRefusals =
