@@ -5,3 +5,5 @@ pub mod Laws
 pub mod Places
 pub mod Rules
 pub mod Slots
+pub mod Entry
+pub mod Entries

@@ -4,3 +4,4 @@ pub mod Position
 pub mod Answer
 pub mod Writing
 pub mod Unfolding
+pub mod Evaluation

@@ -2,6 +2,7 @@
 pub mod answer;
 pub mod check;
 pub mod counts;
+pub mod evaluate;
 pub mod label;
 pub mod layout;
 pub mod place;
