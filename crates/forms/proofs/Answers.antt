@@ -1,52 +1,30 @@
--- What a call refuses, from what the calls that it begins with refuse; and what the start of a form derives.
+-- What a call refuses, from what the calls that it begins with refuse; and what size and label answer and leave.
 use mathlib.Core.Path.{_≡_, refl, sym, _∙_, ap}
 use mathlib.Core.List.{List, _++_}
-use Prim.Native.Nat.{ℕ, zero, suc, _*_, _≤_, _<_}
+use Prim.Native.Nat.{ℕ, _*_, _≤_, _<_}
 use native.Mathlib.Omega.{arith}
 use lib.Dec.{ltb}
-use lib.ListN.{length, getD, take, drop, List·getD-append}
+use lib.ListN.{length, take, drop}
 use lib.Seq.{take-at}
 use borrow.Author.Tests.{ltb-false, lt-ltb, le-ltb, le-leb, lt-leb}
-use Rattle.terms.specs.Refusal.{orElse}
-use Rattle.terms.specs.Form.{closed, valueAt}
-use Rattle.terms.specs.FormBytes.{ruleCount, startOf, formRules, formTree, formRefusal}
+use Rattle.terms.specs.FormBytes.{ruleCount, formTree, formRefusal}
 use Rattle.terms.specs.Check.{alphabetRefusal}
-use Rattle.terms.specs.Count.{Size, ownNodes, sizeOf, largest, capped, sizeAnswer}
-use Rattle.terms.specs.Calls.{countsOf, labelAt, openingRefusal, sizeRefusal, labelRefusal}
-use Rattle.terms.proofs.Refusal.{none-before, no-row}
-use Rattle.terms.proofs.Form.Value.{derives-tree}
-use Rattle.terms.proofs.Form.Symbols.{ownSymbols}
+use Rattle.terms.specs.Count.{sizeOf, largest, capped, sizeAnswer}
+use Rattle.terms.specs.Calls.{lentAfter, countsOf, openingRefusal, sizeRefusal, labelRefusal}
+use Rattle.terms.proofs.Lent.{lent-kept, lent-written}
+use Rattle.terms.proofs.Refusal.{is-first, stops, none-before, no-row}
 use Rattle.forms.specs.declared.answer.Size.the-variants as size
 use Rattle.forms.specs.declared.answer.Label.the-variants as label
-use Rattle.forms.specs.Answer.{sized, sizeCall, labelled, labelCall, countsLeft}
-use Rattle.forms.specs.Counts.{ownIn}
-use Rattle.forms.specs.Position.{symbolAt}
-use Rattle.forms.proofs.Rules.{passed}
-use Rattle.forms.proofs.Counted.{length-counts, own-count}
-
--- a refusal that is given
-
-or-given : (n m : ℕ) → (n ≡ 0 → ⊥) → orElse n m ≡ n
-or-given zero m h = absurd (h refl)
-or-given (suc n) m h = refl
-
-sized-refused : (n : ℕ) (answer : Size) → (n ≡ 0 → ⊥) → sized n answer ≡ size.Refused n
-sized-refused zero answer h = absurd (h refl)
-sized-refused (suc n) answer h = refl
-
-labelled-refused : (n f : ℕ) → (n ≡ 0 → ⊥) → labelled n f ≡ label.Refused n
-labelled-refused zero f h = absurd (h refl)
-labelled-refused (suc n) f h = refl
-
-numbers-kept : (n : ℕ) (alphabet form numbers : List ℕ) → (n ≡ 0 → ⊥) → countsLeft n alphabet form numbers ≡ numbers
-numbers-kept zero alphabet form numbers h = absurd (h refl)
-numbers-kept (suc n) alphabet form numbers h = refl
+use Rattle.forms.specs.Answer.{sized, sizeCall, labelled, labelCall}
+use Rattle.forms.specs.Counts.{CountedForm}
+use Rattle.forms.proofs.Laws.{refused}
+use Rattle.forms.proofs.Counted.{length-counts}
 
 -- size, with n numbers lent
 module _ (alphabet form : List ℕ) (n : ℕ) where
   pub opening-refused : (openingRefusal alphabet form ≡ 0 → ⊥) → sizeRefusal alphabet form n ≡ openingRefusal alphabet form
   unfolding sizeRefusal
-  opening-refused h = or-given (openingRefusal alphabet form) _ h
+  opening-refused h = stops (openingRefusal alphabet form) _ h
 
   pub numbers-lacking : openingRefusal alphabet form ≡ 0 → n < 2 * ruleCount form → sizeRefusal alphabet form n ≡ 19
   unfolding sizeRefusal
@@ -76,44 +54,26 @@ size-passed alphabet form n e =
     let (a, f) = opening-passed alphabet form opened in
     record { ranked = a; valid = f; room = ltb-false _ _ (no-row 18 (ltb n (2 * ruleCount form)) 0 r .0) }
 
--- the start derives the form's tree
-module _ (alphabet form : List ℕ) (a : alphabetRefusal alphabet ≡ 0) (e : formRefusal alphabet form ≡ 0) where
-  pub start-low : startOf form < ruleCount form
-  start-low = passed alphabet form a e .start .below
+-- the counts are worked out in front of some numbers
+pub counted-form : {alphabet form : List ℕ} {n : ℕ} → Sizable alphabet form n → (numbers rest : List ℕ) → numbers ≡ countsOf alphabet form ++ rest
+    → CountedForm alphabet form numbers
+counted-form {alphabet} {form} p numbers rest begins = record {
+  ranked = p .ranked;
+  valid = p .valid;
+  counted = ap (take (2 * ruleCount form)) begins ∙ take-at (countsOf alphabet form) rest (2 * ruleCount form) (length-counts alphabet form);
+}
 
-  pub start-derives : valueAt (formRules alphabet form) (startOf form) ≡ closed (formTree alphabet form)
-  unfolding formTree
-  start-derives =
-      let p = passed alphabet form a e in
-      derives-tree (p .valid) (startOf form) (omega (arith, start-low, p .count)) (p .start .rank)
+-- and copied to other numbers
+pub counts-copied : {alphabet form counts : List ℕ} → CountedForm alphabet form counts → (numbers : List ℕ) (n : ℕ) → n ≡ ruleCount form
+    → take (2 * n) counts ++ drop (2 * n) numbers ≡ countsOf alphabet form ++ drop (2 * ruleCount form) numbers
+counts-copied {form = form} known numbers n e = rw e (ap (λ xs. xs ++ drop (2 * ruleCount form) numbers) (known .counted))
 
-  -- numbers that begin with the counts, and the count of the start there
-  module _ (numbers rest : List ℕ) (begins : numbers ≡ countsOf alphabet form ++ rest) where
-    pub counts-first : take (2 * ruleCount form) numbers ≡ countsOf alphabet form
-    counts-first = ap (take (2 * ruleCount form)) begins ∙ take-at (countsOf alphabet form) rest (2 * ruleCount form) (length-counts alphabet form)
-
-    pub start-count : (start : ℕ) → start ≡ startOf form → ownIn numbers start ≡ capped (sizeOf (formTree alphabet form))
-    start-count start s =
-        let i = startOf form in
-        let low : 2 * i < length (countsOf alphabet form) = omega (arith, start-low, length-counts alphabet form) in
-        ap (ownIn numbers) s
-        ∙ ap (λ xs. ownIn xs i) begins
-        ∙ List·getD-append (countsOf alphabet form) rest 0 (2 * i) low
-        ∙ own-count alphabet form i start-low
-        ∙ ap (λ v. capped (ownNodes v)) start-derives
-
-    -- copied to other numbers
-    pub counts-copied : (numbers′ : List ℕ) (n : ℕ) → n ≡ ruleCount form
-        → take (2 * n) numbers ++ drop (2 * n) numbers′ ≡ countsOf alphabet form ++ drop (2 * ruleCount form) numbers′
-    counts-copied numbers′ n e = rw e (ap (λ xs. xs ++ drop (2 * ruleCount form) numbers′) counts-first)
-
-  -- the symbols of the start are those of the tree
-  pub start-label : (start p : ℕ) → start ≡ startOf form → symbolAt alphabet form start p ≡ labelAt alphabet form p
-  unfolding labelAt
-  start-label start p s = ap (λ i. symbolAt alphabet form i p) s ∙ ap (λ v. getD (ownSymbols v) p 0) start-derives
-
-  pub start-size : (start : ℕ) → start ≡ startOf form → capped (ownNodes (valueAt (formRules alphabet form) start)) ≡ capped (sizeOf (formTree alphabet form))
-  start-size start s = ap (λ i. capped (ownNodes (valueAt (formRules alphabet form) i))) s ∙ ap (λ v. capped (ownNodes v)) start-derives
+-- what is left in the numbers that are lent where nothing is refused
+pub counts-left : (alphabet form numbers : List ℕ) {refusal : ℕ} {exit : List ℕ} → refusal ≡ 0 → exit ≡ countsOf alphabet form ++ drop (2 * ruleCount form) numbers
+    → exit ≡ lentAfter refusal (countsOf alphabet form) numbers
+counts-left alphabet form numbers {refusal = refusal} none e =
+    let counts = countsOf alphabet form in
+    lent-written {r = refusal} counts numbers refl none (e ∙ ap (λ n. counts ++ drop n numbers) (sym (length-counts alphabet form)))
 
 -- what size answers, and what it leaves
 module _ (alphabet form numbers : List ℕ) where
@@ -121,8 +81,8 @@ module _ (alphabet form numbers : List ℕ) where
   refusal = sizeRefusal alphabet form (length numbers)
 
   pub size-refuses : (r : ℕ) → r ≡ refusal → (r ≡ 0 → ⊥)
-      → (size.Refused r ≡ sizeCall alphabet form (length numbers)) × (numbers ≡ countsLeft refusal alphabet form numbers)
-  size-refuses r e h = rw (← e) (sym (sized-refused r _ h), sym (numbers-kept r alphabet form numbers h))
+      → (size.Refused r ≡ sizeCall alphabet form (length numbers)) × (numbers ≡ lentAfter refusal (countsOf alphabet form) numbers)
+  size-refuses r e h = (refused size.Refused sized (λ n answer. refl) e h, lent-kept _ _ e h)
 
   module _ (e : refusal ≡ 0) (m : ℕ) (c : m ≡ capped (sizeOf (formTree alphabet form))) where
     pub size-over : m ≡ largest → size.Over ≡ sizeCall alphabet form (length numbers)
@@ -140,23 +100,23 @@ module _ (alphabet form numbers : List ℕ) (position : ℕ) where
   abbrev sizeRefused : ℕ
   sizeRefused = sizeRefusal alphabet form (length numbers)
 
-  abbrev refused : ℕ
-  refused = labelRefusal alphabet form position (length numbers)
+  abbrev labelRefused : ℕ
+  labelRefused = labelRefusal alphabet form position (length numbers)
 
   abbrev Refuses : ℕ → Type 0
-  Refuses r = (label.Refused r ≡ labelCall alphabet form position (length numbers)) × (numbers ≡ countsLeft refused alphabet form numbers)
+  Refuses r = (label.Refused r ≡ labelCall alphabet form position (length numbers)) × (numbers ≡ lentAfter labelRefused (countsOf alphabet form) numbers)
 
-  label-refuses : (r : ℕ) → r ≡ refused → (r ≡ 0 → ⊥) → Refuses r
-  label-refuses r e h = rw (← e) (sym (labelled-refused r _ h), sym (numbers-kept r alphabet form numbers h))
+  label-refuses : (r : ℕ) → r ≡ labelRefused → (r ≡ 0 → ⊥) → Refuses r
+  label-refuses r e h = (refused label.Refused labelled (λ n f. refl) e h, lent-kept _ _ e h)
 
   pub label-unsized : (r : ℕ) → r ≡ sizeRefused → (r ≡ 0 → ⊥) → Refuses r
   unfolding labelRefusal
-  label-unsized r e h = label-refuses r (rw (← e) (sym (or-given r _ h))) h
+  label-unsized r e h = label-refuses r (is-first _ e h) h
 
   pub label-past : sizeRefused ≡ 0 → capped (sizeOf (formTree alphabet form)) ≤ position → Refuses 21
   unfolding labelRefusal
   label-past e l = label-refuses 21 (rw (e, le-leb (capped (sizeOf (formTree alphabet form))) position l)) (λ z. omega arith)
 
-  pub label-there : sizeRefused ≡ 0 → position < capped (sizeOf (formTree alphabet form)) → refused ≡ 0
+  pub label-there : sizeRefused ≡ 0 → position < capped (sizeOf (formTree alphabet form)) → labelRefused ≡ 0
   unfolding labelRefusal
   label-there e l = rw (e, lt-leb (capped (sizeOf (formTree alphabet form))) position l)

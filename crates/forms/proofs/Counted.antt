@@ -5,17 +5,18 @@ use mathlib.Core.List.{List}
 use Prim.Native.Nat.{ℕ, _+_, _*_, _/_, _%_, _≤_, _<_}
 use native.Mathlib.Omega.{arith}
 use lib.Dec.{eqb}
-use lib.ListN.{length, getD, take}
-use lib.Seq.{getD-take}
+use lib.ListN.{length, getD, take, length-take}
+use lib.Seq.{getD-take, take-all}
 use Rattle.terms.specs.Form.{Value, valueAt}
-use Rattle.terms.specs.FormBytes.{ruleCount, formRule, formRules, formRefusal}
+use Rattle.terms.specs.FormBytes.{ruleCount, ruleOffset, formRule, formRules, formRefusal}
 use Rattle.terms.specs.Check.{alphabetRefusal}
 use Rattle.terms.specs.Count.{ownNodes, nodesBefore, capped}
 use Rattle.terms.specs.Calls.{countsOf}
 use Rattle.terms.proofs.Tabulate.{length-tabulate, getD-tabulate}
+use Rattle.terms.proofs.Form.Bytes.{FormPassed}
 use Rattle.terms.proofs.Form.Count.{own-capped, before-capped, ownBy, beforeBy}
-use Rattle.forms.specs.Counts.{ownIn, beforeIn, Counted}
-use Rattle.forms.proofs.Rules.{passed, in-rules, rule-is}
+use Rattle.forms.specs.Counts.{ownIn, beforeIn, CountedForm, CountedRule}
+use Rattle.forms.proofs.Rules.{passed, rule-whole, in-rules, rule-is}
 
 module _ (alphabet form : List ℕ) where
   abbrev value : ℕ → Value
@@ -54,9 +55,29 @@ module _ (alphabet form : List ℕ) where
     pub before-held : (a : ℕ) → a < n → beforeIn counts a ≡ capped (nodesBefore (value a))
     before-held a h = same-at (2 * a + 1) (omega arith) ∙ before-count a (omega arith)
 
+-- a form with its counts
+module _ {alphabet form counts : List ℕ} (known : CountedForm alphabet form counts) where
+  pub known-form : FormPassed alphabet form
+  known-form = passed alphabet form (known .ranked) (known .valid)
+
+  pub rule-there : (i : ℕ) → i < ruleCount form → ruleOffset i + 12 ≤ length form
+  rule-there = rule-whole alphabet form (known .ranked) (known .valid)
+
+  pub counts-long : 2 * ruleCount form ≤ length counts
+  counts-long = omega (arith, ap length (known .counted), length-take (2 * ruleCount form) counts, length-counts alphabet form)
+
+  same : take (2 * ruleCount form) counts ≡ take (2 * ruleCount form) (countsOf alphabet form)
+  same = known .counted ∙ sym (take-all (2 * ruleCount form) (countsOf alphabet form) (omega (arith, length-counts alphabet form)))
+
+  pub own-known : (a : ℕ) → a < ruleCount form → ownIn counts a ≡ capped (ownNodes (value alphabet form a))
+  own-known = own-held alphabet form counts (ruleCount form) (omega arith) same
+
+  pub before-known : (a : ℕ) → a < ruleCount form → beforeIn counts a ≡ capped (nodesBefore (value alphabet form a))
+  before-known = before-held alphabet form counts (ruleCount form) (omega arith) same
+
 -- what is counted of rule i by the counts of lower rules is what it derives
 pub counted-rule : (alphabet form : List ℕ) → alphabetRefusal alphabet ≡ 0 → formRefusal alphabet form ≡ 0 → (counts : List ℕ) (i : ℕ) → i < ruleCount form
-    → take (2 * i) counts ≡ take (2 * i) (countsOf alphabet form) → (n m : ℕ) → Counted counts (formRule alphabet form i) n m
+    → take (2 * i) counts ≡ take (2 * i) (countsOf alphabet form) → (n m : ℕ) → CountedRule counts (formRule alphabet form i) n m
     → (n ≡ capped (ownNodes (valueAt (formRules alphabet form) i))) × (m ≡ capped (nodesBefore (valueAt (formRules alphabet form) i)))
 counted-rule alphabet form a e counts i l same n m c =
     let valid = passed alphabet form a e .valid in

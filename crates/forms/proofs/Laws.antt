@@ -1,13 +1,13 @@
--- What a negated answer says of the test that it answers, and what opening and evaluating a form let through.
-use mathlib.Core.Path.{_≡_, sym, _∙_}
+-- What a negated answer says of the test that it answers, what is answered where there is a refusal, and what evaluation lets through.
+use mathlib.Core.Path.{_≡_, sym, _∙_, ap}
 use mathlib.Core.Bool.{Bool, true, false, not}
 use mathlib.Core.List.{List}
-use Prim.Native.Nat.{ℕ, _≤_}
+use Prim.Native.Nat.{ℕ, zero, suc, _≤_}
 use lib.Dec.{ltb}
 use borrow.Author.Tests.{ltb-false, not-true, not-false}
 use Rattle.terms.specs.Check.{alphabetRefusal, automatonRefusal}
 use Rattle.terms.specs.FormBytes.{ruleCount, formRefusal}
-use Rattle.terms.specs.Calls.{openingRefusal, evaluationRefusal}
+use Rattle.terms.specs.Calls.{evaluationRefusal}
 use Rattle.terms.proofs.Refusal.{none-before, no-row}
 use Rattle.terms.proofs.Sheet.Passed.{alphabet-passed}
 use Rattle.terms.proofs.Form.Bytes.{FormPassed, form-passed}
@@ -20,12 +20,11 @@ module _ {r b : Bool} (e : r ≡ b) where
   pub passed : not r ≡ false → b ≡ true
   passed n = sym e ∙ not-false r n
 
--- a form that opens is valid for its alphabet
-pub opened : (alphabet form : List ℕ) → openingRefusal alphabet form ≡ 0 → FormPassed alphabet form
-unfolding openingRefusal
-opened alphabet form e =
-    let (known, rest) = none-before (alphabetRefusal alphabet) _ e in
-    form-passed alphabet form (alphabet-passed alphabet known) (none-before (formRefusal alphabet form) 0 rest .0)
+-- a call that answers each refusal by its number does so of the refusal that is found
+pub refused : {A B : Type 0} (number : ℕ → A) (answer : ℕ → B → A) → ((n : ℕ) (b : B) → number (suc n) ≡ answer (suc n) b)
+    → {r n : ℕ} {b : B} → r ≡ n → (r ≡ 0 → ⊥) → number r ≡ answer n b
+refused number answer same {n = zero} e h = absurd (h e)
+refused number answer same {n = suc n} {b = b} e h = ap number e ∙ same n b
 
 -- what evaluation lets through
 pub record EvaluationPassed (alphabet automaton form : List ℕ) (numbers : ℕ) : Type 0 where

@@ -7,3 +7,4 @@ pub mod Rules
 pub mod Slots
 pub mod Entry
 pub mod Entries
+pub mod Start

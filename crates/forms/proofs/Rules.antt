@@ -37,7 +37,7 @@ module _ (alphabet form : List ℕ) (a : alphabetRefusal alphabet ≡ 0) (e : fo
   pub head-long : 4 ≤ length form
   head-long = omega (arith, passed .long)
 
-  rank-low : (f : ℕ) → terminalRank alphabet f ≤ 4
+  pub rank-low : (f : ℕ) → terminalRank alphabet f ≤ 4
   rank-low = rank-le alphabet (alphabet-passed alphabet a .ranks)
 
   module _ (i : ℕ) (l : i < ruleCount form) where
@@ -66,7 +66,7 @@ module _ (alphabet form : List ℕ) (a : alphabetRefusal alphabet ≡ 0) (e : fo
     unfolding formRules
     rule-is = getD-tabulate (ruleCount form) (formRule alphabet form) (whole 0 []) i l
 
-    fits : Fits alphabet (formRules alphabet form) i (formRule alphabet form i)
+    pub fits : Fits alphabet (formRules alphabet form) i (formRule alphabet form i)
     fits = rw rule-is at (passed .valid .fits i in-rules)
 
     -- by its kind

@@ -1,19 +1,16 @@
 -- The slots of a rule, from one place on.
 use mathlib.Core.Path.{_≡_, refl, _∙_, ap, ap₂}
-use mathlib.Core.List.{List, [], _∷_}
+use mathlib.Core.List.{[], _∷_}
 use Prim.Native.Nat.{ℕ, zero, suc, _+_, _-_, _≤_, _<_}
 use native.Mathlib.Nat.{add-zero}
 use native.Mathlib.Omega.{arith}
 use Rattle.terms.specs.Test.{tabulate}
+use Rattle.forms.specs.Counts.{slotsFrom}
 
 tabulate-same : {A : Type 0} (n : ℕ) (f g : ℕ → A) → ((k : ℕ) → f k ≡ g k) → tabulate n f ≡ tabulate n g
 unfolding tabulate
 tabulate-same zero f g e = refl
 tabulate-same (suc n) f g e = ap₂ _∷_ (e 0) (tabulate-same n (λ k. f (suc k)) (λ k. g (suc k)) (λ k. e (suc k)))
-
--- the slots from one place up to another
-abbrev pub slotsFrom : (ℕ → ℕ) → ℕ → ℕ → List ℕ
-slotsFrom slot from to = tabulate (to - from) (λ k. slot (from + k))
 
 module _ (slot : ℕ → ℕ) (from to : ℕ) where
   pub slots-none : to ≤ from → slotsFrom slot from to ≡ []

@@ -1,11 +1,10 @@
--- What size and label answer, and what they leave in the slice that is lent.
-use mathlib.Core.List.{List, _++_}
-use Prim.Native.Nat.{ℕ, zero, suc, _*_}
-use lib.ListN.{drop}
-use Rattle.terms.specs.FormBytes.{ruleCount, formTree}
+-- What size and label answer.
+use mathlib.Core.List.{List}
+use Prim.Native.Nat.{ℕ, zero, suc}
+use Rattle.terms.specs.FormBytes.{formTree}
 use Rattle.terms.specs.Count.{sizeOf, sizeAnswer}
 use Rattle.terms.specs.Count as count
-use Rattle.terms.specs.Calls.{countsOf, labelAt, sizeRefusal, labelRefusal}
+use Rattle.terms.specs.Calls.{labelAt, sizeRefusal, labelRefusal}
 use Rattle.forms.specs.declared.answer.Size.{Size}
 use Rattle.forms.specs.declared.answer.Size.the-variants as size
 use Rattle.forms.specs.declared.answer.Label.{Label}
@@ -29,8 +28,3 @@ labelled (suc refusal) f = label.Refused (suc refusal)
 -- the terminal at a position of a form's tree, with so many numbers lent (01 Size, label)
 abbrev pub labelCall : List ℕ → List ℕ → ℕ → ℕ → Label
 labelCall alphabet form position numbers = labelled (labelRefusal alphabet form position numbers) (labelAt alphabet form position)
-
--- the numbers that are lent, as they are after a call: the counts in front where nothing is refused (01 Unfolding)
-abbrev pub countsLeft : ℕ → List ℕ → List ℕ → List ℕ → List ℕ
-countsLeft zero alphabet form numbers = countsOf alphabet form ++ drop (2 * ruleCount form) numbers
-countsLeft (suc refusal) alphabet form numbers = numbers

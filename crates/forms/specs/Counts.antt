@@ -1,11 +1,14 @@
 -- The counts that are lent: two for each rule.
 use mathlib.Core.Path.{_≡_}
 use mathlib.Core.List.{List}
-use Prim.Native.Nat.{ℕ, _+_, _*_, _≤_, _<_}
-use lib.ListN.{length, getD}
+use Prim.Native.Nat.{ℕ, _+_, _*_, _-_, _≤_, _<_}
+use lib.ListN.{length, getD, take}
+use Rattle.terms.specs.Test.{tabulate}
 use Rattle.terms.specs.Form.{Rule}
-use Rattle.terms.specs.FormBytes.{ruleOffset, slotOf}
+use Rattle.terms.specs.FormBytes.{ruleCount, ruleOffset, slotOf, formRefusal}
+use Rattle.terms.specs.Check.{alphabetRefusal}
 use Rattle.terms.specs.Count.{capped}
+use Rattle.terms.specs.Calls.{countsOf}
 use Rattle.terms.proofs.Form.Count.{ownBy, beforeBy}
 
 -- how many nodes rule a derives, by the counts (01 Unfolding)
@@ -16,10 +19,20 @@ ownIn counts a = getD counts (2 * a) 0
 abbrev pub beforeIn : List ℕ → ℕ → ℕ
 beforeIn counts a = getD counts (2 * a + 1) 0
 
+-- a form that is not refused, and numbers that begin with the counts of its rules (01 Unfolding)
+pub record CountedForm (alphabet form counts : List ℕ) : Type 0 where
+  pub ranked : alphabetRefusal alphabet ≡ 0
+  pub valid : formRefusal alphabet form ≡ 0
+  pub counted : take (2 * ruleCount form) counts ≡ countsOf alphabet form
+
 -- n and m are the counts of a rule, capped, by those of lower rules (01 Unfolding)
-pub record Counted (counts : List ℕ) (rule : Rule) (n m : ℕ) : Type 0 where
+pub record CountedRule (counts : List ℕ) (rule : Rule) (n m : ℕ) : Type 0 where
   pub own : n ≡ capped (ownBy (ownIn counts) rule)
   pub prior : m ≡ capped (beforeBy (ownIn counts) (beforeIn counts) rule)
+
+-- the slots from one place up to another
+abbrev pub slotsFrom : (ℕ → ℕ) → ℕ → ℕ → List ℕ
+slotsFrom slot from to = tabulate (to - from) (λ j. slot (from + j))
 
 -- the slots from one up to another of rule i are in the form, and name rules that have counts (01 Unfolding)
 pub record Readable (form counts : List ℕ) (i from to : ℕ) : Type 0 where

@@ -1,15 +1,14 @@
 -- Positions of the own symbols of a form's rules.
 use mathlib.Core.Path.{_≡_}
 use mathlib.Core.List.{List}
-use Prim.Native.Nat.{ℕ, _*_, _<_}
-use lib.ListN.{getD, take}
+use Prim.Native.Nat.{ℕ, _<_}
+use lib.ListN.{getD}
 use Rattle.terms.specs.Form.{valueAt}
-use Rattle.terms.specs.FormBytes.{ruleCount, formRules, formRefusal}
-use Rattle.terms.specs.Check.{alphabetRefusal}
+use Rattle.terms.specs.FormBytes.{ruleCount, formRules}
 use Rattle.terms.specs.Count.{ownNodes, capped}
-use Rattle.terms.specs.Calls.{countsOf}
 use Rattle.terms.proofs.Form.Symbols.{ownSymbols}
 use Rattle.terms.proofs.Form.Label.{LiesIn}
+use Rattle.forms.specs.Counts.{CountedForm}
 use Rattle.forms.specs.declared.place.Found.{Found}
 use Rattle.forms.specs.declared.place.Found.the-variants.{At, In}
 
@@ -17,11 +16,9 @@ use Rattle.forms.specs.declared.place.Found.the-variants.{At, In}
 abbrev pub symbolAt : List ℕ → List ℕ → ℕ → ℕ → ℕ
 symbolAt alphabet form i p = getD (ownSymbols (valueAt (formRules alphabet form) i)) p 0
 
--- rule i of a form that is not refused has a position p, and the counts are the form's (01 Size, label)
+-- rule i of a form with its counts has a position p (01 Size, label)
 pub record Position (alphabet form counts : List ℕ) (i p : ℕ) : Type 0 where
-  pub ranked : alphabetRefusal alphabet ≡ 0
-  pub valid : formRefusal alphabet form ≡ 0
-  pub counted : take (2 * ruleCount form) counts ≡ countsOf alphabet form
+  pub known : CountedForm alphabet form counts
   pub rule : i < ruleCount form
   pub within : p < capped (ownNodes (valueAt (formRules alphabet form) i))
 

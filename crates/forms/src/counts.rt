@@ -7,7 +7,6 @@ ghost use mathlib.Core.Path.{_≡_};
 ghost use mathlib.Core.List.{_++_};
 ghost use Prim.Native.Nat.{_+_, _*_, _-_, _<_, _≤_};
 ghost use lib.ListN.{length, take, drop, set};
-ghost use Rattle.terms.specs.Test.{tabulate};
 ghost use Rattle.terms.specs.Grammar.{terminalRank};
 ghost use Rattle.terms.specs.Form.{valueAt};
 ghost use Rattle.terms.specs.FormBytes.{ruleCount, ruleOffset, ruleByte, slotOf, formRule, formRules, formRefusal};
@@ -15,10 +14,13 @@ ghost use Rattle.terms.specs.Check.{alphabetRefusal};
 ghost use Rattle.terms.specs.Count.{capped, ownNodes, nodesBefore};
 ghost use Rattle.terms.specs.Calls.{countsOf};
 ghost use Rattle.terms.proofs.Form.Count.{total};
-ghost use Rattle.forms.specs.Counts.{ownIn, beforeIn, Counted, Readable};
+ghost use Rattle.forms.specs.Counts.{ownIn, beforeIn, slotsFrom, CountedRule, Readable};
 
 // The largest count: it stands for every count from it on.
 pub const LARGEST: u64 = 0xFFFF_FFFF_FFFF_FFFF;
+
+// The most counts of a form: two for each of 2,048 rules.
+pub const MOST_COUNTS: usize = 4096;
 
 // The counts of a rule.
 struct Counts {
@@ -55,7 +57,7 @@ pub fn before_of(counts: &[u64], rule: Rule) -> u64
 // The nodes of the slots `from` up to `to` of rule `i`, the last slot first.
 fn sum_slots(form: &[u8], counts: &[u64], i: usize, from: usize, to: usize) -> u64
     requires { ⌜ Readable (now form) (now counts) i from to ⌝ }
-    ensures { λ r. ⌜ r ≡ capped (total (ownIn (now (counts .entry))) (tabulate (to - from) (λ k. slotOf (now (form .entry)) i (from + k)))) ⌝ }
+    ensures { λ r. ⌜ r ≡ capped (total (ownIn (now (counts .entry))) (slotsFrom (slotOf (now (form .entry)) i) from to)) ⌝ }
 {
     let mut sum = 0;
     let mut j = to;
@@ -77,7 +79,7 @@ pub fn rank_at(alphabet: &[u8], form: &[u8], i: usize) -> usize
 // The counts of rule `i`, of kind 0 or 1: its terminal, and its slots.
 fn terminal_counts(alphabet: &[u8], form: &[u8], counts: &[u64], i: usize) -> Counts
     requires { ⌜ (alphabetRefusal (now alphabet) ≡ 0) × (formRefusal (now alphabet) (now form) ≡ 0) × (i < ruleCount (now form)) × (2 * i ≤ length (now counts)) × (ruleByte (now form) i 0 < 2) ⌝ }
-    ensures { λ r. ⌜ Counted (now (counts .entry)) (formRule (now (alphabet .entry)) (now (form .entry)) i) (r .own) (r .before) ⌝ }
+    ensures { λ r. ⌜ CountedRule (now (counts .entry)) (formRule (now (alphabet .entry)) (now (form .entry)) i) (r .own) (r .before) ⌝ }
 {
     let rank = rank_at(alphabet, form, i);
     if layout::kind_of(form, i) == 0 {
@@ -93,7 +95,7 @@ fn terminal_counts(alphabet: &[u8], form: &[u8], counts: &[u64], i: usize) -> Co
 // The counts of rule `i`, from those of lower rules.
 fn rule_counts(alphabet: &[u8], form: &[u8], counts: &[u64], i: usize) -> Counts
     requires { ⌜ (alphabetRefusal (now alphabet) ≡ 0) × (formRefusal (now alphabet) (now form) ≡ 0) × (i < ruleCount (now form)) × (2 * i ≤ length (now counts)) ⌝ }
-    ensures { λ r. ⌜ Counted (now (counts .entry)) (formRule (now (alphabet .entry)) (now (form .entry)) i) (r .own) (r .before) ⌝ }
+    ensures { λ r. ⌜ CountedRule (now (counts .entry)) (formRule (now (alphabet .entry)) (now (form .entry)) i) (r .own) (r .before) ⌝ }
 {
     let kind = layout::kind_of(form, i);
     if kind < 2 {

@@ -10,12 +10,9 @@ use terms::Rule;
 use terms::Terminal;
 ghost use mathlib.Core.Path.{_≡_};
 ghost use lib.ListN.{length};
-ghost use Rattle.terms.specs.Calls.{labelRefusal};
+ghost use Rattle.terms.specs.Calls.{labelRefusal, countsOf, lentAfter};
 ghost use Rattle.forms.specs.Position.{Position, symbolAt};
-ghost use Rattle.forms.specs.Answer.{labelCall, countsLeft};
-
-// The most counts of a form: two for each of 2,048 rules.
-const MOST_COUNTS: usize = 4096;
+ghost use Rattle.forms.specs.Answer.{labelCall};
 
 // The terminal at a position of a rule.
 pub fn label_in(alphabet: &[u8], form: &[u8], counts: &[u64], rule: Rule, position: u64) -> Terminal
@@ -35,13 +32,13 @@ pub fn label_in(alphabet: &[u8], form: &[u8], counts: &[u64], rule: Rule, positi
 // so these go to the slice that is lent only then: a refusal leaves it as it was.
 pub fn label(alphabet: &[u8], form: &[u8], position: u64, counts: &mut [u64]) -> Label
     ensures { λ r. ⌜ r ≡ labelCall (now (alphabet .entry)) (now (form .entry)) position (length (now (counts .entry))) ⌝ }
-    ensures { λ r. ⌜ now (counts .exit) ≡ countsLeft (labelRefusal (now (alphabet .entry)) (now (form .entry)) position (length (now (counts .entry)))) (now (alphabet .entry)) (now (form .entry)) (now (counts .entry)) ⌝ }
+    ensures { λ r. ⌜ now (counts .exit) ≡ lentAfter (labelRefusal (now (alphabet .entry)) (now (form .entry)) position (length (now (counts .entry)))) (countsOf (now (alphabet .entry)) (now (form .entry))) (now (counts .entry)) ⌝ }
 {
     let refusal = size::check_size(alphabet, form, counts.len());
     if refusal != 0 {
         return Label::Refused(refusal);
     }
-    let mut known = [0u64; MOST_COUNTS];
+    let mut known = [0u64; counts::MOST_COUNTS];
     counts::count_nodes(alphabet, form, &mut known);
     let start = layout::start_of(form);
     if counts::own_of(&known, start) <= position {

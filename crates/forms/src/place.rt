@@ -4,11 +4,10 @@ use crate::layout;
 use terms::Rule;
 use terms::Terminal;
 ghost use mathlib.Core.Path.{_≡_};
-ghost use Prim.Native.Nat.{_+_, _-_, _<_, _≤_};
-ghost use Rattle.terms.specs.Test.{tabulate};
+ghost use Prim.Native.Nat.{_-_, _<_, _≤_};
 ghost use Rattle.terms.specs.FormBytes.{ruleByte, slotOf};
 ghost use Rattle.terms.proofs.Form.Label.{placeIn};
-ghost use Rattle.forms.specs.Counts.{ownIn, Readable};
+ghost use Rattle.forms.specs.Counts.{ownIn, slotsFrom, Readable};
 ghost use Rattle.forms.specs.Position.{Position, Lies, Leads};
 
 // A rule and a position in preorder of its own symbols.
@@ -26,7 +25,7 @@ pub enum Found {
 // Where a position in the slots `from` up to `to` of rule `i` falls.
 fn in_slots(form: &[u8], counts: &[u64], i: usize, from: usize, to: usize, position: u64) -> Place
     requires { ⌜ Readable (now form) (now counts) i from to ⌝ }
-    ensures { λ r. ⌜ (r .rule .0, r .position) ≡ placeIn (ownIn (now (counts .entry))) (tabulate (to - from) (λ k. slotOf (now (form .entry)) i (from + k))) position ⌝ }
+    ensures { λ r. ⌜ (r .rule .0, r .position) ≡ placeIn (ownIn (now (counts .entry))) (slotsFrom (slotOf (now (form .entry)) i) from to) position ⌝ }
 {
     let mut left = position;
     let mut j = from;

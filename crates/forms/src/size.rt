@@ -5,8 +5,8 @@ use crate::counts;
 use crate::layout;
 ghost use mathlib.Core.Path.{_≡_};
 ghost use lib.ListN.{length};
-ghost use Rattle.terms.specs.Calls.{sizeRefusal};
-ghost use Rattle.forms.specs.Answer.{sizeCall, countsLeft};
+ghost use Rattle.terms.specs.Calls.{sizeRefusal, countsOf, lentAfter};
+ghost use Rattle.forms.specs.Answer.{sizeCall};
 
 // The refusal of a call that lends so many numbers for the counts: 3, 4, 18 or 19, 0 where it passes.
 pub fn check_size(alphabet: &[u8], form: &[u8], numbers: usize) -> u8
@@ -25,7 +25,7 @@ pub fn check_size(alphabet: &[u8], form: &[u8], numbers: usize) -> u8
 // How many nodes the tree has. The counts are left in the front of the slice that is lent.
 pub fn size(alphabet: &[u8], form: &[u8], counts: &mut [u64]) -> Size
     ensures { λ r. ⌜ r ≡ sizeCall (now (alphabet .entry)) (now (form .entry)) (length (now (counts .entry))) ⌝ }
-    ensures { λ r. ⌜ now (counts .exit) ≡ countsLeft (sizeRefusal (now (alphabet .entry)) (now (form .entry)) (length (now (counts .entry)))) (now (alphabet .entry)) (now (form .entry)) (now (counts .entry)) ⌝ }
+    ensures { λ r. ⌜ now (counts .exit) ≡ lentAfter (sizeRefusal (now (alphabet .entry)) (now (form .entry)) (length (now (counts .entry)))) (countsOf (now (alphabet .entry)) (now (form .entry))) (now (counts .entry)) ⌝ }
 {
     let refusal = check_size(alphabet, form, counts.len());
     if refusal != 0 {

@@ -1,39 +1,24 @@
 // The tree of a form, written out in preorder.
-use crate::check;
 use crate::counts;
 use crate::layout;
+use crate::size;
 use sheets::alphabet;
 use terms::Rule;
 ghost use mathlib.Core.Path.{_≡_};
-ghost use Prim.Native.Nat.{_+_, _*_, _<_};
-ghost use lib.ListN.{length, getD};
+ghost use Prim.Native.Nat.{_+_};
+ghost use lib.ListN.{length};
 ghost use lib.Seq.{sets};
-ghost use Rattle.forms.specs.Unfolding.{unfoldingAnswer, treeAfter, countsAfter};
-ghost use Rattle.forms.specs.Writing.{symbolsIn, ruleWritten, Counted, RuleRoom, SlotsRoom};
-
-// How many numbers the counts of the longest form take: two for each of 2,048 rules.
-const MOST_COUNTS: usize = 4096;
+ghost use Rattle.terms.specs.Tree.{preorder};
+ghost use Rattle.terms.specs.FormBytes.{formTree};
+ghost use Rattle.terms.specs.Calls.{unfoldingRefusal, countsOf, lentAfter};
+ghost use Rattle.forms.specs.Counts.{CountedForm};
+ghost use Rattle.forms.specs.Unfolding.{unfoldCall};
+ghost use Rattle.forms.specs.Writing.{symbolsIn, ruleWritten, RuleRoom, SlotsRoom};
 
 // What unfolding answers: the number of its refusal, or how many nodes it wrote.
 pub enum Unfolding {
     Refused(u8),
     Written(usize),
-}
-
-// The count of a rule's own nodes.
-fn own_nodes(counts: &[u64], rule: Rule) -> usize
-    requires { ⌜ 2 * rule .0 < length (now counts) ⌝ }
-    ensures { λ r. ⌜ r ≡ getD (now (counts .entry)) (2 * rule .0) 0 ⌝ }
-{
-    counts[2 * rule.0 as usize] as usize
-}
-
-// The count of the nodes before a rule's open place.
-fn nodes_before(counts: &[u64], rule: Rule) -> usize
-    requires { ⌜ 2 * rule .0 + 1 < length (now counts) ⌝ }
-    ensures { λ r. ⌜ r ≡ getD (now (counts .entry)) (2 * rule .0 + 1) 0 ⌝ }
-{
-    counts[2 * rule.0 as usize + 1] as usize
 }
 
 // Writes the trees of a rule's slots `from` to `to`, `to` not among them, one behind the other, and answers where they end.
@@ -47,7 +32,7 @@ fn write_slots(
     tree: &mut [u8],
     at: usize,
 ) -> usize
-    requires { ⌜ Counted (now alphabet) (now form) (now counts) × SlotsRoom (now alphabet) (now form) (rule .0) from to at (length (now tree)) ⌝ }
+    requires { ⌜ CountedForm (now alphabet) (now form) (now counts) × SlotsRoom (now alphabet) (now form) (rule .0) from to at (length (now tree)) ⌝ }
     ensures end { λ r. ⌜ r ≡ at + length (symbolsIn (now (alphabet .entry)) (now (form .entry)) (rule .0) from to) ⌝ }
     ensures written { λ _. ⌜ now (tree .exit) ≡ sets (now (tree .entry)) at (symbolsIn (now (alphabet .entry)) (now (form .entry)) (rule .0) from to) ⌝ }
 {
@@ -57,7 +42,7 @@ fn write_slots(
     while j < to {
         let slot = layout::slot_of(form, i, j);
         write_rule(alphabet, form, counts, slot, tree, end, 0);
-        end += own_nodes(counts, slot);
+        end += counts::own_of(counts, slot) as usize;
         j += 1;
     }
     end
@@ -74,7 +59,7 @@ fn write_rule(
     at: usize,
     gap: usize,
 )
-    requires { ⌜ Counted (now alphabet) (now form) (now counts) × RuleRoom (now alphabet) (now form) (rule .0) at gap (length (now tree)) ⌝ }
+    requires { ⌜ CountedForm (now alphabet) (now form) (now counts) × RuleRoom (now alphabet) (now form) (rule .0) at gap (length (now tree)) ⌝ }
     ensures { λ _. ⌜ now (tree .exit) ≡ ruleWritten (now (alphabet .entry)) (now (form .entry)) (rule .0) (now (tree .entry)) at gap ⌝ }
 {
     let i = rule.0 as usize;
@@ -83,8 +68,8 @@ fn write_rule(
         // B(C) and B(C(y)): B with room for C and the gap, then C in that room.
         let root = layout::slot_of(form, i, 0);
         let inner = layout::slot_of(form, i, 1);
-        let place = at + nodes_before(counts, root);
-        let room = own_nodes(counts, inner) + gap;
+        let place = at + counts::before_of(counts, root) as usize;
+        let room = counts::own_of(counts, inner) as usize + gap;
         write_rule(alphabet, form, counts, root, tree, at, room);
         write_rule(alphabet, form, counts, inner, tree, place, gap);
         return;
@@ -105,26 +90,22 @@ fn write_rule(
 // Writes the form's tree into the tree that is lent, and the counts of its rules into the counts. A call that is refused changes neither, so
 // the counts are worked out beside them, and copied once the tree is known to fit.
 pub fn unfold(alphabet: &[u8], form: &[u8], counts: &mut [u64], tree: &mut [u8]) -> Unfolding
-    ensures answer { λ r. ⌜ r ≡ unfoldingAnswer (now (alphabet .entry)) (now (form .entry)) (length (now (counts .entry))) (length (now (tree .entry))) ⌝ }
-    ensures tree { λ _. ⌜ now (tree .exit) ≡ treeAfter (now (alphabet .entry)) (now (form .entry)) (length (now (counts .entry))) (now (tree .entry)) ⌝ }
-    ensures counts { λ _. ⌜ now (counts .exit) ≡ countsAfter (now (alphabet .entry)) (now (form .entry)) (now (counts .entry)) (length (now (tree .entry))) ⌝ }
+    ensures answer { λ r. ⌜ r ≡ unfoldCall (now (alphabet .entry)) (now (form .entry)) (length (now (counts .entry))) (length (now (tree .entry))) ⌝ }
+    ensures tree { λ _. ⌜ now (tree .exit) ≡ lentAfter (unfoldingRefusal (now (alphabet .entry)) (now (form .entry)) (length (now (counts .entry))) (length (now (tree .entry)))) (preorder (formTree (now (alphabet .entry)) (now (form .entry)))) (now (tree .entry)) ⌝ }
+    ensures counts { λ _. ⌜ now (counts .exit) ≡ lentAfter (unfoldingRefusal (now (alphabet .entry)) (now (form .entry)) (length (now (counts .entry))) (length (now (tree .entry)))) (countsOf (now (alphabet .entry)) (now (form .entry))) (now (counts .entry)) ⌝ }
 {
-    let refusal = check::check_opening(alphabet, form);
+    let refusal = size::check_size(alphabet, form, counts.len());
     if refusal != 0 {
         return Unfolding::Refused(refusal);
     }
-    let numbers = 2 * layout::rule_count(form);
-    if counts.len() < numbers {
-        return Unfolding::Refused(19);
-    }
-    let mut worked = [0u64; MOST_COUNTS];
-    counts::count_nodes(alphabet, form, &mut worked);
+    let mut known = [0u64; counts::MOST_COUNTS];
+    counts::count_nodes(alphabet, form, &mut known);
     let start = layout::start_of(form);
-    let size = own_nodes(&worked, start);
+    let size = counts::own_of(&known, start) as usize;
     if tree.len() < size {
         return Unfolding::Refused(20);
     }
-    write_rule(alphabet, form, &worked, start, tree, 0, 0);
-    counts::copy_counts(&worked, numbers, counts);
+    write_rule(alphabet, form, &known, start, tree, 0, 0);
+    counts::copy_counts(&known, 2 * layout::rule_count(form), counts);
     Unfolding::Written(size)
 }

@@ -2,22 +2,22 @@
 use mathlib.Core.Logic.{_⊎_, inl, inr}
 use mathlib.Core.Path.{_≡_, sym, _∙_, ap}
 use mathlib.Core.List.{List, [], _∷_, _++_, append-assoc}
-use Prim.Native.Nat.{ℕ, zero, suc, _+_, _-_, _≤_, _<_}
+use Prim.Native.Nat.{ℕ, suc, _+_, _-_, _≤_, _<_}
 use native.Mathlib.Nat.{eq-or-lt-of-le}
 use native.Mathlib.Omega.{arith}
 use lib.ListN.{length, set, length-append}
 use lib.Seq.{sets}
 use Rattle.terms.specs.Grammar.{terminalRank}
-use Rattle.terms.specs.Form.{Rule, whole, filled, composed, Value, ruleAt, holes, Has, Slots, Fits, Valid}
-use Rattle.terms.specs.FormBytes.{ruleCount, ruleByte, slotOf, ruleOfKind, formRule, formRules}
-use Rattle.terms.proofs.Tabulate.{length-tabulate, getD-tabulate}
-use Rattle.terms.proofs.Sheet.Passed.{alphabet-passed}
-use Rattle.terms.proofs.Form.Bytes.{rank-le}
-use Rattle.terms.proofs.Form.Unfold.{symbolsBefore, symbolsAfter, ruleBefore, ruleAfter, own-before, own-after, tree-after}
-use Rattle.forms.specs.Writing.{spliced, valueIn, slotsIn, Counted, symbolsIn, ruleWritten}
+use Rattle.terms.specs.Form.{Rule, filled, composed, Value, ruleAt, holes, Has, Slots, Fits, Valid}
+use Rattle.terms.specs.FormBytes.{ruleCount, ruleByte, slotOf, formRule, formRules}
+use Rattle.terms.proofs.Form.Symbols.{symbolsBefore, symbolsAfter, tree-before, tree-after}
+use Rattle.terms.proofs.Form.Unfold.{ruleBefore, ruleAfter, own-before, own-after}
+use Rattle.forms.specs.Counts.{slotsFrom, CountedForm}
+use Rattle.forms.specs.Writing.{spliced, valueIn, symbolsIn, ruleWritten}
 use Rattle.forms.proofs.unfold.Splice.{no-gap, chained, node-whole, node-pierced}
-use Rattle.forms.proofs.unfold.Exact.{passed}
-use Rattle.forms.proofs.unfold.Slots.{first-slots}
+use Rattle.forms.proofs.Slots.{slots-all}
+use Rattle.forms.proofs.Rules.{rank-low, in-rules, rule-is, fits, is-whole, is-pierced, is-filled, is-composed, hole-within}
+use Rattle.forms.proofs.Counted.{known-form}
 
 module _ (alphabet form : List ℕ) (i : ℕ) where
   abbrev rules : List Rule
@@ -39,7 +39,7 @@ module _ (alphabet form : List ℕ) (i : ℕ) where
   -- what is known of f(A1..An)
   pub record Whole (f n : ℕ) : Type 0 where
     pub few : n ≤ 4
-    pub slots : Slots rules i (slotsIn form i 0 n)
+    pub slots : Slots rules i (slotsFrom (slotOf form i) 0 n)
     pub first : symbolsBefore (value i) ≡ f ∷ symbolsIn alphabet form i 0 n
     pub last : symbolsAfter (value i) ≡ []
 
@@ -48,8 +48,8 @@ module _ (alphabet form : List ℕ) (i : ℕ) where
     pub few : n ≤ 4
     pub some : 1 ≤ h
     pub within : h ≤ n
-    pub slots-before : Slots rules i (slotsIn form i 0 (h - 1))
-    pub slots-after : Slots rules i (slotsIn form i h n)
+    pub slots-before : Slots rules i (slotsFrom (slotOf form i) 0 (h - 1))
+    pub slots-after : Slots rules i (slotsFrom (slotOf form i) h n)
     pub first : symbolsBefore (value i) ≡ f ∷ symbolsIn alphabet form i 0 (h - 1)
     pub last : symbolsAfter (value i) ≡ symbolsIn alphabet form i h n
 
@@ -77,51 +77,48 @@ module _ (alphabet form : List ℕ) (i : ℕ) where
       rw (node .first, node .last)
       (node-pierced l l′ l″ at f end gap (symbolsIn alphabet form i 0 (h - 1)) (symbolsIn alphabet form i h n) e place e′)
 
-  module _ (counts : List ℕ) (known : Counted alphabet form counts) (below : i < ruleCount form) where
+  module _ (counts : List ℕ) (known : CountedForm alphabet form counts) (below : i < ruleCount form) where
     valid : Valid alphabet rules
-    valid = passed alphabet form counts known .valid
+    valid = known-form known .valid
 
     low : i < length rules
-    low = omega (arith, passed alphabet form counts known .count)
+    low = in-rules alphabet form (known .ranked) (known .valid) i below
 
-    ranks : (f : ℕ) → terminalRank alphabet f ≤ 4
-    ranks = rank-le alphabet (alphabet-passed alphabet (known .terminals) .ranks)
+    module _ (r : Rule) (is : formRule alphabet form i ≡ r) where
+      rule-at : ruleAt rules i ≡ r
+      rule-at = rule-is alphabet form (known .ranked) (known .valid) i below ∙ is
 
-    rule-at : ruleAt rules i ≡ formRule alphabet form i
-    unfolding formRules
-    rule-at = getD-tabulate (ruleCount form) (formRule alphabet form) (whole 0 []) i below
-
-    module _ (r : Rule) (is : ruleAt rules i ≡ r) where
-      fits : Fits alphabet rules i r
-      fits = rw is at (valid .fits i low)
+      names : Fits alphabet rules i r
+      names = rw is at (fits alphabet form (known .ranked) (known .valid) i below)
 
       before-is : symbolsBefore (value i) ≡ ruleBefore value r
-      before-is = own-before valid i low ∙ ap (ruleBefore value) is
+      before-is = own-before valid i low ∙ ap (ruleBefore value) rule-at
 
       after-is : symbolsAfter (value i) ≡ ruleAfter value r
-      after-is = own-after valid i low ∙ ap (ruleAfter value) is
+      after-is = own-after valid i low ∙ ap (ruleAfter value) rule-at
 
-    filled-chain : (b c : ℕ) → ruleAt rules i ≡ filled b c → Chain b c
+    filled-chain : (b c : ℕ) → formRule alphabet form i ≡ filled b c → Chain b c
     filled-chain b c e =
-        let (root, inner) = fits (filled b c) e in
+        let (root, inner) = names (filled b c) e in
         let none = tree-after valid i (omega (arith, low)) c inner in
+        let all = tree-before valid i (omega (arith, low)) c inner in
         let first = before-is (filled b c) e in
         let last = after-is (filled b c) e in
         record {
           root = root;
-          inner = rw e inner;
-          long = rw (first, last, none) (simp length-append (omega arith));
-          shape = λ l at gap shut. rw (first, last, none, shut (ap holes e), no-gap) (rw append-assoc);
+          inner = rw (rule-at (filled b c) e) inner;
+          long = rw (first, last, none, all) (simp length-append (omega arith));
+          shape = λ l at gap shut. rw (first, last, none, all, shut (ap holes (rule-at (filled b c) e)), no-gap) (rw append-assoc);
         }
 
-    composed-chain : (b c : ℕ) → ruleAt rules i ≡ composed b c → Chain b c
+    composed-chain : (b c : ℕ) → formRule alphabet form i ≡ composed b c → Chain b c
     composed-chain b c e =
-        let (root, inner) = fits (composed b c) e in
+        let (root, inner) = names (composed b c) e in
         let first = before-is (composed b c) e in
         let last = after-is (composed b c) e in
         record {
           root = root;
-          inner = rw e inner;
+          inner = rw (rule-at (composed b c) e) inner;
           long = rw (first, last) (simp length-append (omega arith));
           shape = λ l at gap shut. rw (first, last);
         }
@@ -139,38 +136,32 @@ module _ (alphabet form : List ℕ) (i : ℕ) where
     slot = slotOf form i
 
     pub chain : 2 ≤ ruleByte form i 0 → Chain (slot 0) (slot 1)
-    unfolding formRule
-    chain two = go (ruleByte form i 0) two rule-at
+    chain two = go (eq-or-lt-of-le two)
       where
-        go : (kind : ℕ) → 2 ≤ kind → ruleAt rules i ≡ ruleOfKind kind terminal rank hole slot → Chain (slot 0) (slot 1)
-        go zero h e = absurd (omega arith)
-        go (suc zero) h e = absurd (omega arith)
-        go (suc (suc zero)) h e = filled-chain (slot 0) (slot 1) e
-        go (suc (suc (suc kind))) h e = composed-chain (slot 0) (slot 1) e
+        go : (2 ≡ ruleByte form i 0) ⊎ (2 < ruleByte form i 0) → Chain (slot 0) (slot 1)
+        go (inl e) = filled-chain (slot 0) (slot 1) (is-filled alphabet form (known .ranked) (known .valid) i below (sym e))
+        go (inr g) = composed-chain (slot 0) (slot 1) (is-composed alphabet form (known .ranked) (known .valid) i below g)
 
     pub whole-node : ruleByte form i 0 ≡ 0 → Whole terminal rank
-    unfolding formRule
     whole-node kind =
-        let is = rw (kind, first-slots form i rank) at rule-at in
+        let is = rw (← slots-all slot rank) at (is-whole alphabet form (known .ranked) (known .valid) i below kind) in
         record {
-          few = ranks terminal;
-          slots = fits _ is .0;
+          few = rank-low alphabet form (known .ranked) (known .valid) terminal;
+          slots = names _ is .0;
           first = before-is _ is;
           last = after-is _ is;
         }
 
     pub pierced-node : ruleByte form i 0 ≡ 1 → Pierced terminal rank hole
-    unfolding formRule
     pierced-node kind =
-        let is = rw (kind, first-slots form i (hole - 1)) at rule-at in
-        let children : hole - 1 + suc (rank - hole) ≡ rank =
-        omega (arith, fits _ is .2 .rank, length-tabulate (hole - 1 - 0) (λ j. slot (0 + j)), length-tabulate (rank - hole) (λ j. slot (hole + j))) in
+        let is = rw (← slots-all slot (hole - 1)) at (is-pierced alphabet form (known .ranked) (known .valid) i below kind) in
+        let (some, within) = hole-within alphabet form (known .ranked) (known .valid) i below kind in
         record {
-          few = ranks terminal;
-          some = omega arith;
-          within = omega arith;
-          slots-before = fits _ is .0;
-          slots-after = fits _ is .1;
+          few = rank-low alphabet form (known .ranked) (known .valid) terminal;
+          some = some;
+          within = within;
+          slots-before = names _ is .0;
+          slots-after = names _ is .1;
           first = before-is _ is;
           last = after-is _ is;
         }

@@ -1,109 +1,79 @@
 -- The call of unfolding: its tests are those of the definition, in its order, and what it leaves is the form's tree.
-use mathlib.Core.Path.{_≡_, refl, sym, _∙_, ap}
-use mathlib.Core.List.{List, [], _++_}
-use Prim.Native.Nat.{ℕ, zero, suc, _*_, _≤_, _<_}
+use mathlib.Core.Path.{_≡_, refl, _∙_, ap}
+use mathlib.Core.List.{List, _++_}
+use Prim.Native.Nat.{ℕ, _*_, _≤_, _<_}
 use native.Mathlib.Nat.{zero-add}
 use native.Mathlib.Omega.{arith}
 use borrow.Author.Tests.{lt-ltb, le-ltb}
-use lib.ListN.{length, getD, take, drop}
-use lib.Seq.{take-at, sets-eq}
-use Rattle.terms.specs.Tree.{preorder}
-use Rattle.terms.specs.Form.{Value, closed}
-use Rattle.terms.specs.FormBytes.{ruleCount, startOf, formTree, formRefusal}
-use Rattle.terms.specs.Count.{ownNodes, sizeOf, capped}
-use Rattle.terms.specs.Check.{alphabetRefusal}
-use Rattle.terms.specs.Calls.{openingRefusal, sizeRefusal, unfoldingRefusal, countsOf}
-use Rattle.terms.proofs.Refusal.{none-before}
-use Rattle.terms.proofs.Sheet.Passed.{alphabet-passed}
-use Rattle.terms.proofs.Form.Bytes.{FormPassed, form-passed}
-use Rattle.terms.proofs.Form.Value.{derives-tree}
-use Rattle.terms.proofs.Form.Unfold.{symbolsBefore, symbolsAfter}
+use lib.ListN.{length, drop}
+use lib.Seq.{sets-eq}
+use Rattle.terms.specs.Tree.{Tree, preorder}
+use Rattle.terms.specs.FormBytes.{ruleCount, startOf, formTree}
+use Rattle.terms.specs.Count.{sizeOf}
+use Rattle.terms.specs.Calls.{lentAfter, sizeRefusal, unfoldingRefusal, countsOf}
+use Rattle.terms.proofs.Lent.{lent-kept, lent-written}
+use Rattle.terms.proofs.Refusal.{is-first}
+use Rattle.terms.proofs.Form.Symbols.{symbolsBefore, symbolsAfter}
 use Rattle.forms.specs.declared.unfold.Unfolding.{Unfolding}
 use Rattle.forms.specs.declared.unfold.Unfolding.the-variants.{Refused, Written}
-use Rattle.forms.specs.Unfolding.{unfoldingAnswer, treeAfter, countsAfter}
-use Rattle.forms.specs.Writing.{valueIn, Counted, ruleWritten}
-use Rattle.forms.proofs.unfold.Exact.{passed, length-counts, own-count}
+use Rattle.forms.specs.Counts.{CountedForm}
+use Rattle.forms.specs.Unfolding.{unfolded, unfoldCall}
+use Rattle.forms.specs.Writing.{ruleWritten, RuleRoom}
+use Rattle.forms.proofs.Laws.{refused}
+use Rattle.forms.proofs.Start.{start-low, start-derives}
+use Rattle.forms.proofs.Answers.{counts-left}
 
--- the start of a form with counts
-module _ (alphabet form counts : List ℕ) (known : Counted alphabet form counts) where
-  abbrev start : Value
-  start = valueIn alphabet form (startOf form)
-
-  derives : start ≡ closed (formTree alphabet form)
-  unfolding formTree
-  derives =
-      let p = passed alphabet form counts known in
-      derives-tree (p .valid) (startOf form) (omega (arith, p .start .below, p .count)) (p .start .rank)
-
-  pub start-below : startOf form < ruleCount form
-  start-below = passed alphabet form counts known .start .below
-
-  -- the first count of the start is the size of the tree
-  pub start-count : getD counts (2 * startOf form) 0 ≡ capped (sizeOf (formTree alphabet form))
-  start-count = own-count alphabet form counts known (startOf form) start-below ∙ ap (λ v. capped (ownNodes v)) derives
-
-  pub start-before : symbolsBefore start ≡ preorder (formTree alphabet form)
-  start-before = ap symbolsBefore derives
-
-  pub start-after : symbolsAfter start ≡ []
-  start-after = ap symbolsAfter derives
-
--- an alphabet and a form that pass
-module _ (alphabet form : List ℕ) (opens : 0 ≡ openingRefusal alphabet form) where
-  pub opened : (alphabetRefusal alphabet ≡ 0) × (formRefusal alphabet form ≡ 0)
-  unfolding openingRefusal
-  opened =
-      let (e, more) = none-before (alphabetRefusal alphabet) _ (sym opens) in
-      (e, none-before (formRefusal alphabet form) 0 more .0)
-
-  pub opened-form : FormPassed alphabet form
-  opened-form = form-passed alphabet form (alphabet-passed alphabet (opened .0)) (opened .1)
-
-  pub counted : (worked rest : List ℕ) → worked ≡ countsOf alphabet form ++ rest → Counted alphabet form worked
-  counted worked rest e = record {
-    terminals = opened .0;
-    rules = opened .1;
-    nodes = rw e (take-at (countsOf alphabet form) rest (2 * ruleCount form) (length-counts alphabet form));
+-- the start of a form, written into a tree that has room for it
+module _ {alphabet form worked : List ℕ} (known : CountedForm alphabet form worked) (start : ℕ) (s : start ≡ startOf form) where
+  pub start-room : (room : ℕ) → sizeOf (formTree alphabet form) ≤ room → RuleRoom alphabet form start 0 0 room
+  start-room room h = rw s record {
+    below = start-low known;
+    shut = λ e. refl;
+    fits = omega (arith, ap (λ v. length (symbolsBefore v)) (start-derives known), ap (λ v. length (symbolsAfter v)) (start-derives known));
   }
+
+  pub start-written : (tree : List ℕ) → sizeOf (formTree alphabet form) ≤ length tree
+      → ruleWritten alphabet form start tree 0 0 ≡ preorder (formTree alphabet form) ++ drop (sizeOf (formTree alphabet form)) tree
+  start-written tree h =
+      let t = preorder (formTree alphabet form) in
+      rw (s, start-derives known) (sets-eq t tree 0 (omega arith) ∙ rw zero-add)
 
 -- what the call answers and leaves
 module _ (alphabet form counts tree : List ℕ) where
-  abbrev refusal : ℕ
-  refusal = unfoldingRefusal alphabet form (length counts) (length tree)
+  abbrev derived : Tree
+  derived = formTree alphabet form
+
+  abbrev sizeRefused : ℕ
+  sizeRefused = sizeRefusal alphabet form (length counts)
+
+  abbrev unfoldRefused : ℕ
+  unfoldRefused = unfoldingRefusal alphabet form (length counts) (length tree)
 
   abbrev Outcome : Unfolding → List ℕ → List ℕ → Type 0
   Outcome answer counts′ tree′ =
-      (answer ≡ unfoldingAnswer alphabet form (length counts) (length tree))
-      × ((tree′ ≡ treeAfter alphabet form (length counts) tree) × (counts′ ≡ countsAfter alphabet form counts (length tree)))
+      (answer ≡ unfoldCall alphabet form (length counts) (length tree))
+      × ((tree′ ≡ lentAfter unfoldRefused (preorder derived) tree) × (counts′ ≡ lentAfter unfoldRefused (countsOf alphabet form) counts))
 
-  leaves-all : (n : ℕ) → refusal ≡ suc n → Outcome (Refused (suc n)) counts tree
-  leaves-all n e = (rw e, (rw e, rw e))
+  refuses : (r : ℕ) → r ≡ unfoldRefused → (r ≡ 0 → ⊥) → Outcome (Refused r) counts tree
+  refuses r e h = (refused Refused unfolded (λ n nodes. refl) e h, (lent-kept _ _ e h, lent-kept _ _ e h))
 
-  pub not-opened : (n : ℕ) → n ≡ openingRefusal alphabet form → (n ≡ 0 → ⊥) → Outcome (Refused n) counts tree
-  unfolding unfoldingRefusal sizeRefusal
-  not-opened zero e some = absurd (some refl)
-  not-opened (suc n) e some = leaves-all n (rw (← e))
+  pub unsized : (r : ℕ) → r ≡ sizeRefused → (r ≡ 0 → ⊥) → Outcome (Refused r) counts tree
+  unfolding unfoldingRefusal
+  unsized r e h = refuses r (is-first _ e h) h
 
-  module _ (opens : 0 ≡ openingRefusal alphabet form) where
-    pub few-numbers : length counts < 2 * ruleCount form → Outcome (Refused 19) counts tree
-    unfolding unfoldingRefusal sizeRefusal
-    few-numbers h = leaves-all 18 (rw (← opens, lt-ltb _ _ h))
+  module _ (e : sizeRefused ≡ 0) where
+    pub longer : length tree < sizeOf derived → Outcome (Refused 20) counts tree
+    unfolding unfoldingRefusal
+    longer l = refuses 20 (rw (e, lt-ltb _ _ l)) (λ z. omega arith)
 
-    module _ (enough : 2 * ruleCount form ≤ length counts) where
-      pub longer : length tree < sizeOf (formTree alphabet form) → Outcome (Refused 20) counts tree
-      unfolding unfoldingRefusal sizeRefusal
-      longer h = leaves-all 19 (rw (← opens, le-ltb _ _ enough, lt-ltb _ _ h))
+    fitting : sizeOf derived ≤ length tree → unfoldRefused ≡ 0
+    unfolding unfoldingRefusal
+    fitting l = rw (e, le-ltb _ _ l)
 
-      pub unfolded : (worked counts′ tree′ : List ℕ) (size numbers start : ℕ) → Counted alphabet form worked
-          → size ≡ sizeOf (formTree alphabet form) → numbers ≡ 2 * ruleCount form → start ≡ startOf form → size ≤ length tree
-          → tree′ ≡ ruleWritten alphabet form start tree 0 0
-          → counts′ ≡ take numbers worked ++ drop numbers counts
-          → Outcome (Written size) counts′ tree′
-      unfolding unfoldingRefusal sizeRefusal
-      unfolded worked counts′ tree′ size numbers start known size-is numbers-is start-is fits e e′ =
-          let t = formTree alphabet form in
-          let none : refusal ≡ 0 = rw (← opens, le-ltb _ _ enough, le-ltb (length tree) (sizeOf t) (omega arith)) in
-          let written = rw (start-is, start-before alphabet form worked known, start-after alphabet form worked known) at e in (
-            rw (none, size-is),
-            (rw none (written ∙ sets-eq (preorder t) tree 0 (omega arith) ∙ rw zero-add), rw (none, ← known .nodes) (rw numbers-is at e′)),
-          )
+    pub writes : (size : ℕ) (counts′ tree′ : List ℕ) → sizeOf derived ≤ length tree → size ≡ sizeOf derived
+        → tree′ ≡ preorder derived ++ drop (sizeOf derived) tree
+        → counts′ ≡ countsOf alphabet form ++ drop (2 * ruleCount form) counts
+        → Outcome (Written size) counts′ tree′
+    writes size counts′ tree′ l s t c =
+        let none = fitting l in
+        (rw (none, s), (lent-written {r = unfoldRefused} _ _ refl none t, counts-left alphabet form counts none c))

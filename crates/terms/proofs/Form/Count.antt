@@ -1,15 +1,14 @@
 -- How many nodes a rule derives, from how many the rules that it names derive; and the same of counts that are capped.
 use mathlib.Core.Path.{_≡_, refl, sym, _∙_, ap}
-use mathlib.Core.List.{List, [], _∷_, _++_, append-nil}
+use mathlib.Core.List.{List, [], _∷_, _++_}
 use Prim.Native.Nat.{ℕ, _+_, _≤_, _<_}
 use native.Mathlib.Omega.{arith}
 use lib.ListN.{length, length-append}
-use Rattle.terms.specs.Context.{before, after}
-use Rattle.terms.specs.Form.{Rule, whole, pierced, filled, composed, Value, contextIn, valueOf, valueAt, ruleAt, Slots, Fits, Valid}
+use Rattle.terms.specs.Form.{Rule, whole, pierced, filled, composed, Value, valueOf, valueAt, ruleAt, Slots, Fits, Valid}
 use Rattle.terms.specs.Count.{ownNodes, nodesBefore, capped}
-use Rattle.terms.proofs.Tree.Context.{before-compose}
 use Rattle.terms.proofs.Form.Value.{value-step}
-use Rattle.terms.proofs.Form.Symbols.{ownSymbols, count-symbols, symbolsAt, symbolsOf, context-symbols, context-before, trees-symbols, own-symbols}
+use Rattle.terms.proofs.Form.Symbols.{symbolsBefore, symbolsAfter, ownSymbols, count-symbols, count-parts, symbolsAt, around, nodes-before}
+use Rattle.terms.proofs.Form.Unfold.{symbolsOf, fits-before, own-symbols}
 
 -- the sum of the counts of the rules that are named
 abbrev pub total : (ℕ → ℕ) → List ℕ → ℕ
@@ -38,36 +37,33 @@ module _ {alphabet : List ℕ} {rs : List Rule} (v : Valid alphabet rs) (n : ℕ
   abbrev value : ℕ → Value
   value = valueAt rs
 
-  length-around : (b c : ℕ) → (before (contextIn (value b)) ++ after (contextIn (value b)) ≡ ownSymbols (value b))
-      → length (before (contextIn (value b)) ++ (ownSymbols (value c) ++ after (contextIn (value b)))) ≡ ownNodes (value b) + ownNodes (value c)
-  length-around b c e =
-      let xs = before (contextIn (value b)) in
-      let zs = after (contextIn (value b)) in
+  length-around : (b c : ℕ) → length (around (value b) (value c)) ≡ ownNodes (value b) + ownNodes (value c)
+  length-around b c =
+      let xs = symbolsBefore (value b) in
+      let zs = symbolsAfter (value b) in
       let ys = ownSymbols (value c) in
-      omega (arith, length-append xs (ys ++ zs), length-append ys zs, length-append xs zs, ap length e, count-symbols (value b), count-symbols (value c))
+      omega (arith, length-append xs (ys ++ zs), length-append ys zs, count-parts (value b), count-symbols (value c))
 
-  own-rule : (r : Rule) → Fits alphabet rs n r → length (symbolsOf r value) ≡ ownBy (λ a. ownNodes (value a)) r
-  own-rule (whole f slots) p = omega (arith, length-symbols value slots)
-  own-rule (pierced f ls us) p =
+  own-rule : (r : Rule) → length (symbolsOf value r) ≡ ownBy (λ a. ownNodes (value a)) r
+  own-rule (whole f slots) = omega (arith, length-symbols value slots)
+  own-rule (pierced f ls us) =
       omega (arith, length-append (symbolsAt value ls) (symbolsAt value us), length-symbols value ls, length-symbols value us)
-  own-rule (filled b c) p = length-around b c (context-symbols v n l b (p .0))
-  own-rule (composed b c) p = length-around b c (context-symbols v n l b (p .0))
+  own-rule (filled b c) = length-around b c
+  own-rule (composed b c) = length-around b c
 
   before-rule : (r : Rule) → Fits alphabet rs n r → nodesBefore (valueOf r value) ≡ beforeBy (λ a. ownNodes (value a)) (λ a. nodesBefore (value a)) r
-  unfolding valueOf before
+  unfolding valueOf
   before-rule (whole f slots) p = refl
-  before-rule (pierced f ls us) p =
-      rw (trees-symbols v n l ls (p .0), append-nil (symbolsAt value ls)) (omega (arith, length-symbols value ls))
+  before-rule (pierced f ls us) p = omega (arith, ap length (fits-before v n l (pierced f ls us) p), length-symbols value ls)
   before-rule (filled b c) p = refl
   before-rule (composed b c) p =
-      let k = contextIn (value b) in
-      let d = contextIn (value c) in
-      rw (before-compose k d, length-append (before k) (before d), context-before v n l b (p .0), context-before v n l c (p .1))
+      rw (nodes-before v n l b (p .0), nodes-before v n l c (p .1))
+      (ap length (fits-before v n l (composed b c) p) ∙ length-append (symbolsBefore (value b)) (symbolsBefore (value c)))
 
 pub own-step : {alphabet : List ℕ} {rs : List Rule} → Valid alphabet rs → (i : ℕ) → i < length rs
     → ownNodes (valueAt rs i) ≡ ownBy (λ a. ownNodes (valueAt rs a)) (ruleAt rs i)
 own-step {rs = rs} v i h =
-    sym (count-symbols (valueAt rs i)) ∙ ap length (own-symbols v i h) ∙ own-rule v i (omega arith) (ruleAt rs i) (v .fits i h)
+    sym (count-symbols (valueAt rs i)) ∙ ap length (own-symbols v i h) ∙ own-rule v i (omega arith) (ruleAt rs i)
 
 pub before-step : {alphabet : List ℕ} {rs : List Rule} → Valid alphabet rs → (i : ℕ) → i < length rs
     → nodesBefore (valueAt rs i) ≡ beforeBy (λ a. ownNodes (valueAt rs a)) (λ a. nodesBefore (valueAt rs a)) (ruleAt rs i)

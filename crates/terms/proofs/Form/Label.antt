@@ -9,10 +9,10 @@ use lib.Seq.{getD-append-add}
 use lib.Dec.{ltb}
 use borrow.Author.Tests.{lt-ltb, le-ltb}
 use native.Mathlib.Decide.{decLt}
-use Rattle.terms.specs.Context.{before, after}
-use Rattle.terms.specs.Form.{Rule, whole, pierced, filled, composed, Value, contextIn, valueAt, ruleAt, Has, Slots, Fits, Valid}
+use Rattle.terms.specs.Form.{Rule, whole, pierced, filled, composed, Value, valueAt, ruleAt, Has, Slots, Fits, Valid}
 use Rattle.terms.specs.Count.{ownNodes, nodesBefore, largest, capped}
-use Rattle.terms.proofs.Form.Symbols.{ownSymbols, count-symbols, symbolsAt, symbolsOf, around, context-symbols, context-before, own-symbols}
+use Rattle.terms.proofs.Form.Symbols.{symbolsBefore, symbolsAfter, ownSymbols, own-parts, count-symbols, count-parts, symbolsAt, around, nodes-before}
+use Rattle.terms.proofs.Form.Unfold.{symbolsOf, own-symbols}
 use Rattle.terms.proofs.Form.Count.{total, ownBy, beforeBy, length-symbols, own-step, before-step}
 
 -- a position behind the first list
@@ -82,8 +82,8 @@ module _ {alphabet : List ℕ} {rs : List Rule} (valid : Valid alphabet rs) (i :
   Lies a q = LiesIn v i (ownSymbols (v i)) p a q
 
   module _ (r : Rule) (e : ruleAt rs i ≡ r) where
-    symbols-are : ownSymbols (v i) ≡ symbolsOf r v
-    symbols-are = own-symbols valid i l ∙ ap (λ r. symbolsOf r v) e
+    symbols-are : ownSymbols (v i) ≡ symbolsOf v r
+    symbols-are = own-symbols valid i l ∙ ap (symbolsOf v) e
 
     own-is : ownNodes (v i) ≡ ownBy (λ a. ownNodes (v a)) r
     own-is = own-step valid i l ∙ ap (ownBy (λ a. ownNodes (v a))) e
@@ -133,13 +133,13 @@ module _ {alphabet : List ℕ} {rs : List Rule} (valid : Valid alphabet rs) (i :
           (lies-in-slot v rs i own counted us (fits r e .1) (p - prior) (omega arith) (omega (arith, own-is r e, length-symbols v ls)))
 
   -- B(C) and B(C(y)), with the counts that are lent: prior of B's nodes before its open place, own of C's
-  module _ (b c : ℕ) (hb : Has rs i 1 b) (hc : c < i) (e : ownSymbols (v i) ≡ around (contextIn (v b)) (v c)) (prior own : ℕ)
+  module _ (b c : ℕ) (hb : Has rs i 1 b) (hc : c < i) (e : ownSymbols (v i) ≡ around (v b) (v c)) (prior own : ℕ)
       (prior-is : prior ≡ capped (nodesBefore (v b))) (own-counted : own ≡ capped (ownNodes (v c))) where
     abbrev xs : List ℕ
-    xs = before (contextIn (v b))
+    xs = symbolsBefore (v b)
 
     abbrev zs : List ℕ
-    zs = after (contextIn (v b))
+    zs = symbolsAfter (v b)
 
     abbrev ys : List ℕ
     ys = ownSymbols (v c)
@@ -148,13 +148,13 @@ module _ {alphabet : List ℕ} {rs : List Rule} (valid : Valid alphabet rs) (i :
     at-p = ap (λ s. getD s p 0) e
 
     prior-length : length xs ≡ nodesBefore (v b)
-    prior-length = context-before valid i (omega arith) b hb
+    prior-length = sym (nodes-before valid i (omega arith) b hb)
 
     of-b : xs ++ zs ≡ ownSymbols (v b)
-    of-b = context-symbols valid i (omega arith) b hb
+    of-b = sym (own-parts (v b))
 
     length-b : length xs + length zs ≡ ownNodes (v b)
-    length-b = sym (length-append xs zs) ∙ ap length of-b ∙ count-symbols (v b)
+    length-b = sym (count-parts (v b))
 
     length-i : ownNodes (v i) ≡ length xs + (length ys + length zs)
     length-i = omega (arith, count-symbols (v i), ap length e, length-append xs (ys ++ zs), length-append ys zs)
@@ -180,8 +180,8 @@ module _ {alphabet : List ℕ} {rs : List Rule} (valid : Valid alphabet rs) (i :
           same = at-p ∙ behind xs ys zs p (omega arith) (omega arith) ∙ ap (λ n. getD (xs ++ zs) (p - n) 0) (sym f) ∙ ap (λ s. getD s (p - own) 0) of-b;
         }
 
-  pub filled-around : (b c : ℕ) → ruleAt rs i ≡ filled b c → ownSymbols (v i) ≡ around (contextIn (v b)) (v c)
+  pub filled-around : (b c : ℕ) → ruleAt rs i ≡ filled b c → ownSymbols (v i) ≡ around (v b) (v c)
   filled-around b c e = symbols-are (filled b c) e
 
-  pub composed-around : (b c : ℕ) → ruleAt rs i ≡ composed b c → ownSymbols (v i) ≡ around (contextIn (v b)) (v c)
+  pub composed-around : (b c : ℕ) → ruleAt rs i ≡ composed b c → ownSymbols (v i) ≡ around (v b) (v c)
   composed-around b c e = symbols-are (composed b c) e

@@ -8,7 +8,7 @@ use lib.ListN.{length}
 use Rattle.terms.specs.Form.{Rule, filled, composed}
 use Rattle.terms.specs.FormBytes.{ruleOffset, ruleByte, slotOf}
 use Rattle.terms.specs.Count.{capped}
-use Rattle.forms.specs.Counts.{ownIn, beforeIn, Counted}
+use Rattle.forms.specs.Counts.{ownIn, beforeIn, CountedRule}
 use Rattle.forms.proofs.Rules.{rule-whole, is-filled, is-composed, chain-low}
 use Rattle.forms.proofs.counts.rule_counts.Statement.{statement}
 use Rattle.forms.proofs.counts.rule_counts.Tie as tie
@@ -33,11 +33,11 @@ own-is c =
 
 -- the counts of B(C) and B(C(y))
 module _ (counts : List ℕ) (rule : Rule) (b c : ℕ) (n m : ℕ) where
-  counted-filled : rule ≡ filled b c → n ≡ capped (ownIn counts b + ownIn counts c) → Counted counts rule n 0
+  counted-filled : rule ≡ filled b c → n ≡ capped (ownIn counts b + ownIn counts c) → CountedRule counts rule n 0
   counted-filled e own = rw e (record { own = own; prior = refl })
 
   counted-composed : rule ≡ composed b c → n ≡ capped (ownIn counts b + ownIn counts c) → m ≡ capped (beforeIn counts b + beforeIn counts c)
-      → Counted counts rule n m
+      → CountedRule counts rule n m
   counted-composed e own prior = rw e (record { own = own; prior = prior })
 
 kind-of-requires : tie.Need-kind-of-requires

@@ -5,8 +5,8 @@ use native.Mathlib.Omega.{arith}
 use Rattle.terms.specs.FormBytes.{slotOf}
 use Rattle.terms.specs.Count.{capped}
 use Rattle.terms.proofs.Form.Count.{total}
-use Rattle.forms.specs.Counts.{ownIn}
-use Rattle.forms.proofs.Slots.{slotsFrom, slots-none, slots-back}
+use Rattle.forms.specs.Counts.{ownIn, slotsFrom}
+use Rattle.forms.proofs.Slots.{slots-none, slots-back}
 use Rattle.forms.proofs.counts.sum_slots.Statement.{statement}
 use Rattle.forms.proofs.counts.sum_slots.Tie as tie
 

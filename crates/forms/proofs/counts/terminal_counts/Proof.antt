@@ -10,8 +10,8 @@ use Rattle.terms.specs.Form.{Rule, whole, pierced}
 use Rattle.terms.specs.FormBytes.{ruleOffset, ruleByte, slotOf}
 use Rattle.terms.specs.Count.{capped}
 use Rattle.terms.proofs.Form.Count.{total}
-use Rattle.forms.specs.Counts.{ownIn, Counted}
-use Rattle.forms.proofs.Slots.{slotsFrom, slots-all}
+use Rattle.forms.specs.Counts.{ownIn, slotsFrom, CountedRule}
+use Rattle.forms.proofs.Slots.{slots-all}
 use Rattle.forms.proofs.Rules.{rule-whole, is-whole, is-pierced, hole-within, whole-readable, left-readable, right-readable}
 use Rattle.forms.proofs.counts.terminal_counts.Statement.{statement}
 use Rattle.forms.proofs.counts.terminal_counts.Tie as tie
@@ -19,14 +19,14 @@ use Rattle.forms.proofs.counts.terminal_counts.Tie as tie
 -- the counts of f(A1..An), without an open place and with one at child h
 module _ (counts : List ℕ) (rule : Rule) (f n : ℕ) (slot : ℕ → ℕ) where
   counted-whole : (s r : ℕ) → rule ≡ whole f (tabulate n slot) → s ≡ capped (total (ownIn counts) (slotsFrom slot 0 n)) → r ≡ capped (1 + s)
-      → Counted counts rule r 0
+      → CountedRule counts rule r 0
   counted-whole s r e es er =
       let t = ap (λ slots. capped (total (ownIn counts) slots)) (slots-all slot n) in
       rw e (record { own = omega arith; prior = refl })
 
   counted-pierced : (h s m t r : ℕ) → rule ≡ pierced f (tabulate (h - 1) slot) (tabulate (n - h) (λ j. slot (h + j)))
       → s ≡ capped (total (ownIn counts) (slotsFrom slot 0 (h - 1))) → m ≡ capped (1 + s) → t ≡ capped (total (ownIn counts) (slotsFrom slot h n))
-      → r ≡ capped (m + t) → Counted counts rule r m
+      → r ≡ capped (m + t) → CountedRule counts rule r m
   counted-pierced h s m t r e es em et er =
       let l = ap (λ slots. capped (total (ownIn counts) slots)) (slots-all slot (h - 1)) in
       rw e (record { own = omega arith; prior = omega arith })

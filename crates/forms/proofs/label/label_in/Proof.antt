@@ -43,7 +43,7 @@ loop-again : tie.Need-loop-again Inv-loop μ-loop
 loop-again c =
     let (at, same) = c .before .before .before .before .loop .inv in
     let next = leads c in (
-      record { ranked = at .ranked; valid = at .valid; counted = at .counted; rule = omega (arith, at .rule, next .below); within = next .within },
+      record { known = at .known; rule = omega (arith, at .rule, next .below); within = next .within },
       sym (next .same) ∙ same,
     )
 

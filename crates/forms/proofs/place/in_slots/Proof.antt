@@ -5,8 +5,8 @@ use native.Mathlib.Omega.{arith}
 use borrow.Author.Tests.{lt-ltb, le-ltb}
 use Rattle.terms.specs.FormBytes.{slotOf}
 use Rattle.terms.proofs.Form.Label.{placeIn}
-use Rattle.forms.specs.Counts.{ownIn}
-use Rattle.forms.proofs.Slots.{slotsFrom, slots-none, slots-more}
+use Rattle.forms.specs.Counts.{ownIn, slotsFrom}
+use Rattle.forms.proofs.Slots.{slots-none, slots-more}
 use Rattle.forms.proofs.place.in_slots.Statement.{statement}
 use Rattle.forms.proofs.place.in_slots.Tie as tie
 

@@ -28,7 +28,7 @@ in-slots-requires : tie.Need-in-slots-requires
 in-slots-requires c κs =
     let at = c .before .before .before .before .before .before .before .before .pre .0 in
     let kind = sym (c .before .before .kind-of .ensures) ∙ c .before .if1 .taken in
-    rw (c .before .before .before .rank-at .ensures) (whole-readable _ _ (at .ranked) (at .valid) _ (at .rule) _ (room at) kind)
+    rw (c .before .before .before .rank-at .ensures) (whole-readable _ _ (at .known .ranked) (at .known .valid) _ (at .rule) _ (room at) kind)
 
 returns : tie.Need-returns
 returns c =
@@ -48,7 +48,7 @@ before-of-requires c κs = before-low (c .before .before .before .before .before
 sub-in-slots-2 : tie.Need-sub-in-slots-2
 sub-in-slots-2 c =
     let at = c .before .before .before .before .before .before .before .before .before .before .before .pre .0 in
-    omega (arith, hole-within _ _ (at .ranked) (at .valid) _ (at .rule) (kind-is (c .before .before .before .before)) .0, c .before .before .before .hole-of .ensures)
+    omega (arith, hole-within _ _ (at .known .ranked) (at .known .valid) _ (at .rule) (kind-is (c .before .before .before .before)) .0, c .before .before .before .hole-of .ensures)
 
 sub-in-slots-3 : tie.Need-sub-in-slots-3
 sub-in-slots-3 c = search needs
@@ -57,7 +57,7 @@ in-slots-requires-2 : tie.Need-in-slots-requires-2
 in-slots-requires-2 c κs =
     let at = c .before .before .before .before .before .before .before .before .before .before .before .before .pre .0 in
     let h = c .before .before .before .before in
-    rw (h .hole-of .ensures) (left-readable _ _ (at .ranked) (at .valid) _ (at .rule) _ (room at) (kind-is (h .before)))
+    rw (h .hole-of .ensures) (left-readable _ _ (at .known .ranked) (at .known .valid) _ (at .rule) _ (room at) (kind-is (h .before)))
 
 returns-2 : tie.Need-returns-2
 returns-2 c =
@@ -71,7 +71,7 @@ in-slots-requires-3 : tie.Need-in-slots-requires-3
 in-slots-requires-3 c κs =
     let at = c .before .before .before .before .before .before .before .before .before .before .before .before .pre .0 in
     let h = c .before .before .before .before in
-    rw (h .hole-of .ensures, h .before .before .before .rank-at .ensures) (right-readable _ _ (at .ranked) (at .valid) _ (at .rule) _ (room at) (kind-is (h .before)))
+    rw (h .hole-of .ensures, h .before .before .before .rank-at .ensures) (right-readable _ _ (at .known .ranked) (at .known .valid) _ (at .rule) _ (room at) (kind-is (h .before)))
 
 returns-3 : tie.Need-returns-3
 returns-3 c =

@@ -1,32 +1,29 @@
 -- `forms::rule::read_rule` meets its contract: the tests are those of the definition, in its order. A form that opens has a head, and room for each of its rules.
-use mathlib.Core.Path.{_≡_, refl, sym, _∙_}
-use Prim.Native.Nat.{ℕ, zero, suc}
+use mathlib.Core.Path.{refl, sym, _∙_}
 use native.Mathlib.Omega.{arith}
 use borrow.Author.Needs.{needs}
 use borrow.Author.Tests.{le-leb, lt-leb}
 use Rattle.terms.specs.Calls.{readingRefusal}
-use Rattle.forms.specs.declared.rule.FormRule.{FormRule}
 use Rattle.forms.specs.declared.rule.RuleReading.the-variants.{Refused}
 use Rattle.forms.specs.Reading.{orRule, ruleReading}
-use Rattle.forms.proofs.Laws.{opened}
-use Rattle.terms.proofs.Refusal.{stops}
+use Rattle.terms.proofs.Refusal.{is-first}
+use Rattle.forms.proofs.Laws.{refused}
+use Rattle.forms.proofs.Rules.{head-long, rule-whole}
+use Rattle.forms.proofs.Answers.{opening-passed}
 use Rattle.forms.proofs.rule.read_rule.Statement.{statement}
 use Rattle.forms.proofs.rule.read_rule.Tie as tie
-
--- a refusal is answered in place of the rule
-no-rule : (n : ℕ) (rule : FormRule) → (n ≡ 0 → ⊥) → orRule n rule ≡ Refused n
-no-rule zero rule h = absurd (h refl)
-no-rule (suc n) rule h = refl
 
 check-opening-requires : tie.Need-check-opening-requires
 check-opening-requires c κs = tt
 
 returns : tie.Need-returns
 unfolding ruleReading readingRefusal
-returns c = rw (← c .before .check-opening .ensures, stops _ _ (c .if1 .taken)) (sym (no-rule _ _ (c .if1 .taken)))
+returns c = refused Refused orRule (λ n rule. refl) (is-first _ (c .before .check-opening .ensures) (c .if1 .taken)) (c .if1 .taken)
 
 rule-count-requires : tie.Need-rule-count-requires
-rule-count-requires c κs = omega (arith, opened _ _ (sym (c .before .check-opening .ensures) ∙ c .if1 .left) .long)
+rule-count-requires c κs =
+    let (a, f) = opening-passed _ _ (sym (c .before .check-opening .ensures) ∙ c .if1 .left) in
+    head-long _ _ a f
 
 cast-if2 : tie.Need-cast-if2
 cast-if2 c = search needs
@@ -40,7 +37,8 @@ returns-2 c =
 rule-at-requires : tie.Need-rule-at-requires
 rule-at-requires c κs =
     let opens = c .before .before .before in
-    omega (arith, opened _ _ (sym (opens .before .check-opening .ensures) ∙ opens .if1 .left) .long)
+    let (a, f) = opening-passed _ _ (sym (opens .before .check-opening .ensures) ∙ opens .if1 .left) in
+    rule-whole _ _ a f _ (omega arith)
 
 returns-3 : tie.Need-returns-3
 unfolding ruleReading readingRefusal

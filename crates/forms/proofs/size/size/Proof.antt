@@ -6,8 +6,11 @@ use lib.ListN.{length}
 use Rattle.terms.specs.FormBytes.{formTree}
 use Rattle.terms.specs.Count.{sizeOf, capped}
 use Rattle.terms.specs.Calls.{sizeRefusal}
+use Rattle.forms.specs.Counts.{CountedForm}
 use Rattle.forms.proofs.Rules.{head-long}
-use Rattle.forms.proofs.Answers.{Sizable, size-passed, start-low, start-count, size-refuses, size-over, size-exact}
+use Rattle.forms.proofs.Counted.{counts-long}
+use Rattle.forms.proofs.Start.{start-low, start-count}
+use Rattle.forms.proofs.Answers.{Sizable, size-passed, counted-form, counts-left, size-refuses, size-over, size-exact}
 use Rattle.forms.proofs.size.size.Statement.{statement}
 use Rattle.forms.proofs.size.size.Tie as tie
 
@@ -18,13 +21,16 @@ none c = sym (c .before .check-size .ensures) ∙ c .if1 .left
 passes : (c : tie.Else1) → let a = c .before .before .before .before .before .args in Sizable (a .alphabet .now) (a .form .now) (length (a .counts .now))
 passes c = size-passed _ _ _ (none c)
 
+-- the numbers begin with the counts of the form
+known : (c : tie.After-count-nodes) → let a = c .before .before .before .before .before .before .before .args in
+    CountedForm (a .alphabet .now) (a .form .now) (c .count-nodes .last .1 .1 .0)
+known c = counted-form (passes (c .before .before)) _ _ (c .count-nodes .ensures)
+
 abbrev passed-before : tie.After-own-of → tie.Else1
 passed-before c = c .before .before .before .before .before .before .before
 
 nodes-are : (c : tie.After-own-of) → let a = passed-before c .before .before .before .before .before .args in c .own-of .result ≡ capped (sizeOf (formTree (a .alphabet .now) (a .form .now)))
-nodes-are c =
-    let p = passes (passed-before c) in
-    c .own-of .ensures ∙ start-count _ _ (p .ranked) (p .valid) _ _ (c .before .before .before .before .before .count-nodes .ensures) _ (c .before .start-of .ensures)
+nodes-are c = c .own-of .ensures ∙ start-count (known (c .before .before .before .before .before)) _ (c .before .start-of .ensures)
 
 check-size-requires : tie.Need-check-size-requires
 check-size-requires c κs = search needs
@@ -40,8 +46,8 @@ start-of-requires c κs = let p = passes (c .before .before .before .before .bef
 
 own-of-requires : tie.Need-own-of-requires
 own-of-requires c κs =
-    let p = passes (c .before .before .before .before .before .before) in
-    omega (arith, start-low _ _ (p .ranked) (p .valid), c .start-of .ensures, c .before .before .before .before .count-nodes .kept .1 .1 .0, p .room)
+    let counted = known (c .before .before .before .before) in
+    omega (arith, start-low counted, c .start-of .ensures, counts-long counted)
 
 same-length : tie.Need-same-length
 same-length c = search needs
@@ -50,7 +56,7 @@ returns-2 : tie.Need-returns-2
 returns-2 c =
     let opened = passed-before (c .before) in
     let e = none opened in
-    (size-over _ _ (opened .before .before .before .before .before .args .counts .now) e _ (nodes-are (c .before)) (c .if2 .taken), rw e (c .before .before .before .before .before .before .count-nodes .ensures))
+    (size-over _ _ (opened .before .before .before .before .before .args .counts .now) e _ (nodes-are (c .before)) (c .if2 .taken), counts-left _ _ _ e (c .before .before .before .before .before .before .count-nodes .ensures))
 
 same-length-2 : tie.Need-same-length-2
 same-length-2 c = search needs
@@ -59,7 +65,7 @@ returns-3 : tie.Need-returns-3
 returns-3 c =
     let opened = passed-before (c .before) in
     let e = none opened in
-    (size-exact _ _ (opened .before .before .before .before .before .args .counts .now) e _ (nodes-are (c .before)) (c .if2 .left), rw e (c .before .before .before .before .before .before .count-nodes .ensures))
+    (size-exact _ _ (opened .before .before .before .before .before .args .counts .now) e _ (nodes-are (c .before)) (c .if2 .left), counts-left _ _ _ e (c .before .before .before .before .before .before .count-nodes .ensures))
 
 pub size-spec : {M : Type 1} → statement M
 size-spec =

@@ -4,9 +4,10 @@ use Prim.Native.Nat.{ℕ, _+_}
 use native.Mathlib.Omega.{arith}
 use borrow.Author.Needs.{needs}
 use lib.ListN.{length}
-use Rattle.terms.proofs.Form.Unfold.{symbolsBefore, symbolsAfter}
+use Rattle.terms.proofs.Form.Symbols.{symbolsBefore, symbolsAfter}
 use Rattle.forms.specs.Writing.{valueIn}
-use Rattle.forms.proofs.unfold.Exact.{rule-there, counted-length, own-exact, before-exact}
+use Rattle.forms.proofs.Counted.{rule-there, counts-long}
+use Rattle.forms.proofs.unfold.Exact.{own-exact, before-exact}
 use Rattle.forms.proofs.unfold.ByKind.{Chain, chain, chain-written}
 use Rattle.forms.proofs.unfold.write_rule.Reads as write-rule
 use Rattle.forms.proofs.unfold.+write_rule+write_slots.Lts-write_rule as rule-lts
@@ -19,7 +20,7 @@ module _ (t : ℕ) where
   pub rule-kind-of-requires : rule-lts.Need-kind-of-requires (rule-claims t) (rule-at t) write-rule.Post
   rule-kind-of-requires c κs =
       let (known, room) = c .before .before .before .before .before .pre .1 in
-      rule-there _ _ _ known _ (room .below)
+      rule-there known _ (room .below)
 
   pub rule-slot-of-requires : rule-lts.Need-slot-of-requires (rule-claims t) (rule-at t) write-rule.Post
   rule-slot-of-requires c κs = (rule-kind-of-requires (c .before .before) κs, omega arith)
@@ -37,36 +38,36 @@ module _ (t : ℕ) where
       rw (c .before .slot-of .ensures, c .slot-of2 .ensures)
       (chain _ _ _ _ known (room .below) (rw (branch .before .kind-of .ensures) at (branch .if1 .taken)))
 
-  pub rule-nodes-before-requires : rule-lts.Need-nodes-before-requires (rule-claims t) (rule-at t) write-rule.Post
-  rule-nodes-before-requires c κs =
-      omega (arith, chain-known c .root .below, counted-length _ _ _ (c .before .before .before .before .before .before .before .before .before .pre .1 .0))
+  pub rule-before-of-requires : rule-lts.Need-before-of-requires (rule-claims t) (rule-at t) write-rule.Post
+  rule-before-of-requires c κs =
+      omega (arith, chain-known c .root .below, counts-long (c .before .before .before .before .before .before .before .before .before .pre .1 .0))
 
   -- the count of the symbols before B's open place
-  root-before : (c : rule-lts.After-nodes-before (rule-claims t) (rule-at t) write-rule.Post)
+  root-before : (c : rule-lts.After-before-of (rule-claims t) (rule-at t) write-rule.Post)
       → let args = c .before .before .before .before .before .before .before .before .before .before .args in
-      c .nodes-before .result ≡ length (symbolsBefore (valueIn (args .alphabet .now) (args .form .now) (c .before .before .slot-of .result .0)))
+      c .before-of .result ≡ length (symbolsBefore (valueIn (args .alphabet .now) (args .form .now) (c .before .before .slot-of .result .0)))
   root-before c =
       let (known, room) = c .before .before .before .before .before .before .before .before .before .before .pre .1 in
       let both = chain-known (c .before) in
-      c .nodes-before .ensures ∙ before-exact _ _ _ known _ (room .below) _ (both .root) (omega arith)
+      c .before-of .ensures ∙ before-exact known _ _ (room .below) (both .root) (omega arith)
 
   pub rule-add-place : rule-lts.Need-add-place (rule-claims t) (rule-at t) write-rule.Post
   rule-add-place c = omega (arith, root-before c, chain-known (c .before) .long)
 
-  pub rule-own-nodes-requires : rule-lts.Need-own-nodes-requires (rule-claims t) (rule-at t) write-rule.Post
-  rule-own-nodes-requires c κs =
+  pub rule-own-of-requires : rule-lts.Need-own-of-requires (rule-claims t) (rule-at t) write-rule.Post
+  rule-own-of-requires c κs =
       let both = chain-known (c .before) in
-      omega (arith, counted-length _ _ _ (c .before .before .before .before .before .before .before .before .before .before .pre .1 .0))
+      omega (arith, counts-long (c .before .before .before .before .before .before .before .before .before .before .pre .1 .0))
 
   -- the count of C's own symbols
-  inner-own : (c : rule-lts.After-own-nodes (rule-claims t) (rule-at t) write-rule.Post)
+  inner-own : (c : rule-lts.After-own-of (rule-claims t) (rule-at t) write-rule.Post)
       → let args = c .before .before .before .before .before .before .before .before .before .before .before .args in
       let value = valueIn (args .alphabet .now) (args .form .now) (c .before .before .slot-of2 .result .0) in
-      c .own-nodes .result ≡ length (symbolsBefore value) + length (symbolsAfter value)
+      c .own-of .result ≡ length (symbolsBefore value) + length (symbolsAfter value)
   inner-own c =
       let (known, room) = c .before .before .before .before .before .before .before .before .before .before .before .pre .1 in
       let both = chain-known (c .before .before) in
-      c .own-nodes .ensures ∙ own-exact _ _ _ known _ (omega arith) (omega arith)
+      c .own-of .ensures ∙ own-exact known _ (omega arith) (omega arith)
 
   pub rule-add-room : rule-lts.Need-add-room (rule-claims t) (rule-at t) write-rule.Post
   rule-add-room c = omega (arith, inner-own c, chain-known (c .before .before) .long)

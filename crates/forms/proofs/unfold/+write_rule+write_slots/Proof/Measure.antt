@@ -13,8 +13,8 @@ use Rattle.forms.proofs.layout.hole_of.Reads as hole-of
 use Rattle.forms.proofs.layout.kind_of.Reads as kind-of
 use Rattle.forms.proofs.layout.slot_of.Reads as slot-of
 use Rattle.forms.proofs.layout.terminal_of.Reads as terminal-of
-use Rattle.forms.proofs.unfold.nodes_before.Reads as nodes-before
-use Rattle.forms.proofs.unfold.own_nodes.Reads as own-nodes
+use Rattle.forms.proofs.counts.before_of.Reads as before-of
+use Rattle.forms.proofs.counts.own_of.Reads as own-of
 use Rattle.sheets.proofs.alphabet.rank_of.Reads as rank-of
 
 abbrev pub μ-rule : Measures 4 write-rule-kinds.ps ℕ
@@ -37,7 +37,7 @@ module _ (t : ℕ) where
   slots-below = and 4 write-slots-kinds.ps (falls 4 write-slots-kinds.ps _<_ μ-slots t) write-slots.Pre
 
   abbrev pub slots-claims : slots-lts.Claims
-  slots-claims = (slot-of.Asked, slot-of.Learnt, rule-below, write-rule.Post, own-nodes.Asked, own-nodes.Learnt)
+  slots-claims = (slot-of.Asked, slot-of.Learnt, rule-below, write-rule.Post, own-of.Asked, own-of.Learnt)
 
   abbrev pub rule-claims : rule-lts.Claims
   rule-claims = (
@@ -45,10 +45,10 @@ module _ (t : ℕ) where
     kind-of.Learnt,
     slot-of.Asked,
     slot-of.Learnt,
-    nodes-before.Asked,
-    nodes-before.Learnt,
-    own-nodes.Asked,
-    own-nodes.Learnt,
+    before-of.Asked,
+    before-of.Learnt,
+    own-of.Asked,
+    own-of.Learnt,
     rule-below,
     write-rule.Post,
     terminal-of.Asked,

@@ -7,13 +7,15 @@ use native.Mathlib.Omega.{arith}
 use borrow.Author.Needs.{needs}
 use lib.ListN.{length}
 use lib.Seq.{sets}
-use Rattle.terms.specs.Tree.{preorders}
-use Rattle.terms.specs.Form.{Slots, treesAt}
-use Rattle.terms.specs.FormBytes.{formRules}
-use Rattle.terms.proofs.Form.Unfold.{symbolsBefore}
-use Rattle.forms.specs.Writing.{valueIn, slotsIn, symbolsIn}
-use Rattle.forms.proofs.unfold.Exact.{rule-there, counted-length, own-exact}
-use Rattle.forms.proofs.unfold.Slots.{SlotStep, slot-step, slot-written, slots-in-none}
+use Rattle.terms.specs.Form.{Slots}
+use Rattle.terms.specs.FormBytes.{slotOf, formRules}
+use Rattle.terms.proofs.Form.Symbols.{symbolsBefore}
+use Rattle.forms.specs.Counts.{slotsFrom}
+use Rattle.forms.specs.Writing.{valueIn, symbolsIn}
+use Rattle.forms.proofs.Slots.{slots-none}
+use Rattle.forms.proofs.Counted.{rule-there, counts-long}
+use Rattle.forms.proofs.unfold.Exact.{own-exact}
+use Rattle.forms.proofs.unfold.Slots.{SlotStep, slot-step, slot-written}
 use Rattle.forms.proofs.unfold.write_slots.Reads as write-slots
 use Rattle.forms.proofs.unfold.+write_rule+write_slots.Lts-write_slots as slots-lts
 use Rattle.forms.proofs.unfold.+write_rule+write_slots.Proof.Measure.{slots-at, slots-claims}
@@ -21,7 +23,7 @@ use Rattle.forms.proofs.unfold.+write_rule+write_slots.Proof.Measure.{s
 abbrev pub Inv-loop : slots-lts.InvT-loop
 Inv-loop alphabet form counts from to tree₀ at i end₀ j₀ tree end j =
     (length tree ≡ length tree₀)
-    × Slots (formRules alphabet form) i (slotsIn form i j to)
+    × Slots (formRules alphabet form) i (slotsFrom (slotOf form i) j to)
     × (end + length (symbolsIn alphabet form i j to) ≡ at + length (symbolsIn alphabet form i from to))
     × (sets tree end (symbolsIn alphabet form i j to) ≡ sets tree₀ at (symbolsIn alphabet form i from to))
 
@@ -39,7 +41,7 @@ module _ (t : ℕ) where
   pub slots-slot-of-requires : slots-lts.Need-slot-of-requires (slots-claims t) (slots-at t) write-slots.Post Inv-loop μ-loop
   slots-slot-of-requires c κs =
       let (known, room) = c .before .before .before .before .before .before .before .pre .1 in
-      (rule-there _ _ _ known _ (room .below), omega arith)
+      (rule-there known _ (room .below), omega arith)
 
   -- the slot of a turn
   slot-known : (c : slots-lts.After-slot-of (slots-claims t) (slots-at t) write-slots.Post Inv-loop μ-loop)
@@ -55,23 +57,23 @@ module _ (t : ℕ) where
       let (measure, (known, room)) = c .before .before .before .before .before .before .before .before .before .pre in
       (omega arith, (known, record { below = omega arith; shut = λ e. refl; fits = omega (arith, ap length (slot .none)) }))
 
-  pub slots-own-nodes-requires : slots-lts.Need-own-nodes-requires (slots-claims t) (slots-at t) write-slots.Post Inv-loop μ-loop
-  slots-own-nodes-requires c κs =
+  pub slots-own-of-requires : slots-lts.Need-own-of-requires (slots-claims t) (slots-at t) write-slots.Post Inv-loop μ-loop
+  slots-own-of-requires c κs =
       let slot = slot-known (c .before .before .before .before) in
-      omega (arith, counted-length _ _ _ (c .before .before .before .before .before .before .before .before .before .before .before .before .pre .1 .0))
+      omega (arith, counts-long (c .before .before .before .before .before .before .before .before .before .before .before .before .pre .1 .0))
 
   -- the slot's count is the number of its symbols
-  slot-own : (c : slots-lts.After-own-nodes (slots-claims t) (slots-at t) write-slots.Post Inv-loop μ-loop)
+  slot-own : (c : slots-lts.After-own-of (slots-claims t) (slots-at t) write-slots.Post Inv-loop μ-loop)
       → let turn = c .before .before .before .before .before in
       let args = turn .before .before .before .before .before .before .before .before .args in
-      c .own-nodes .result ≡ length (symbolsBefore (valueIn (args .alphabet .now) (args .form .now) (turn .slot-of .result .0)))
+      c .own-of .result ≡ length (symbolsBefore (valueIn (args .alphabet .now) (args .form .now) (turn .slot-of .result .0)))
   slot-own c =
       let turn = c .before .before .before .before .before in
       let slot = slot-known turn in
       let start = turn .before .before .before .before .before .before .before .before in
       let (known, room) = start .pre .1 in
       let none = ap length (slot .none) in
-      c .own-nodes .ensures ∙ own-exact _ _ _ known _ (omega arith) (omega arith) ∙ omega arith
+      c .own-of .ensures ∙ own-exact known _ (omega arith) (omega arith) ∙ omega arith
 
   pub slots-add-end : slots-lts.Need-add-end (slots-claims t) (slots-at t) write-slots.Post Inv-loop μ-loop
   slots-add-end c = omega (arith, slot-own c, slot-known (c .before .before .before .before .before) .long)
@@ -98,9 +100,8 @@ module _ (t : ℕ) where
   slots-same-length c = c .before .loop .inv .0
 
   pub slots-returns : slots-lts.Need-returns (slots-claims t) (slots-at t) write-slots.Post Inv-loop μ-loop
-  unfolding treesAt preorders
   slots-returns c =
       let (kept, more, end, same) = c .before .loop .inv in
       let args = c .before .before .before .before .before .before .before .args in
-      let none = slots-in-none (args .form .now) (args .rule .0) (c .before .loop .j) (args .to) (c .loop-test .left) in
+      let none = slots-none (slotOf (args .form .now) (args .rule .0)) (c .before .loop .j) (args .to) (c .loop-test .left) in
       (rw (none, add-zero) at end, rw none at same)
