@@ -5,6 +5,8 @@ use crate::show::print_number;
 use forms::answer::Label;
 use forms::answer::Size;
 use forms::check::check_opening;
+use forms::evaluate::Evaluation;
+use forms::evaluate::evaluate;
 use forms::label::label;
 use forms::rule::RuleReading;
 use forms::rule::read_rule;
@@ -218,6 +220,22 @@ fn show_bytes(bytes: &[u8], count: usize) {
     }
 }
 
+// What evaluation answers, and the first entries of the relations.
+fn show_mask(name: &[u8], automaton: &[u8], form: &[u8], relations: &mut [u64]) {
+    print(name);
+    match evaluate(&W[12..15], automaton, form, relations) {
+        Evaluation::Refused(n) => {
+            print(b": refused ");
+            print_number(n as usize);
+        }
+        Evaluation::Mask(mask) => {
+            print(b": mask ");
+            print_number(mask as usize);
+        }
+    }
+    print(b"\n");
+}
+
 // What reading a rule by its number answers.
 fn show_rule(name: &[u8], number: u16) {
     print(name);
@@ -297,6 +315,21 @@ fn short_slices() {
     show_unfold(b"20 unfold W into 6", &FORM, &mut numbers, &mut short);
 }
 
+fn masks() {
+    let mut relations = [0u64; 9];
+    let mut few = [0u64; 8];
+    show_mask(b"mask of W", &W[32..], &FORM, &mut relations);
+    show_mask(
+        b"mask of W without transitions",
+        b"\x02\x01",
+        &FORM,
+        &mut relations,
+    );
+    show_mask(b"19 mask with 8 numbers", &W[32..], &FORM, &mut few);
+    show_mask(b"18 mask of 3 bytes", &W[32..], &FORM[0..3], &mut relations);
+    show_mask(b"14 mask with no states", b"\x02", &FORM, &mut relations);
+}
+
 // A rule of kind 1, 2 or 3, or of kind 0 with no slots: its first bytes, and two slots.
 fn put_rule(form: &mut [u8], i: usize, kind: u8, terminal: u8, hole: u8, b: usize, c: usize) {
     if 2048 <= i {
@@ -342,12 +375,11 @@ fn put_head(form: &mut [u8]) {
     }
 }
 
-// The largest tree that a form can have of this kind.
-fn doubling(form: &mut [u8]) {
+// What the calls say of a tree that is too large to count.
+fn show_doubling(form: &[u8]) {
     let mut numbers = [0u64; 4096];
-    put_head(form);
-    put_doubling(form);
     show_size(b"doubling 2,048 rules", form, &mut numbers);
+    show_mask(b"mask of it", &W[32..], form, &mut numbers);
     show_label(b"label of it at 0", form, 0, &mut numbers);
     show_label(
         b"label of it at 2^63",
@@ -369,12 +401,19 @@ fn doubling(form: &mut [u8]) {
     );
 }
 
+fn doubling(form: &mut [u8]) {
+    put_head(form);
+    put_doubling(form);
+    show_doubling(form);
+}
+
 pub fn run() {
     broken_heads();
     broken_nodes();
     broken_chains();
     calls();
     short_slices();
+    masks();
     let mut form = [0xFFu8; 24580];
     doubling(&mut form);
 }
