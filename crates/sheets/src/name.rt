@@ -69,7 +69,7 @@ pub fn allowed(alphabet: &[u8], rule: Rule, rank: u8, name: Name) -> bool
 }
 
 // The rank of what an allowed node names, from the ranks of the terminals and of the rules.
-pub(crate) fn name_rank(alphabet: &[u8], ranks: &[u8; MOST_RULES], name: Name) -> u8
+pub fn name_rank(alphabet: &[u8], ranks: &[u8; MOST_RULES], name: Name) -> u8
     requires { ⌜ HasRank (length (now alphabet)) (naming name) ⌝ }
     ensures { λ r. ⌜ r ≡ nameRank (now (alphabet .entry)) (ruledBy (now (ranks .entry))) (naming name) ⌝ }
 {

@@ -1,0 +1,102 @@
+-- What reading a sheet says of making its form: what is refused, and that its parts are a grammar over its alphabet.
+use mathlib.Core.Path.{_≡_, refl, sym, ap}
+use mathlib.Core.List.{List}
+use Prim.Native.Nat.{ℕ, zero, suc, _+_, _*_, _-_, _≤_, _<_}
+use native.Mathlib.Omega.{arith}
+use borrow.Author.Tests.{lt-ltb, le-ltb}
+use lib.ListN.{length, take, drop, length-drop}
+use lib.Seq.{length-take-le}
+use Rattle.terms.specs.FormBytes.{ruleOffset}
+use Rattle.terms.specs.Sheet.{bodyOffset, body, alphabetOf, rulesBody, rulesOf, nodesOf}
+use Rattle.terms.specs.Check.{refusal}
+use Rattle.terms.specs.Calls.{makingRefusal}
+use Rattle.terms.proofs.Sheet.Bodies.{Joined, joined}
+use Rattle.terms.proofs.Sheet.Grammar.{rules-passed}
+use Rattle.terms.proofs.Sheet.Passed.{alphabet-passed, SheetPassed, sheet-passed}
+use Rattle.sheets.specs.Sheet.{sheetAfter, sheetReading}
+use Rattle.sheets.specs.declared.sheet.Layout.{Layout}
+use Rattle.sheets.specs.declared.sheet.Reading.the-variants.{Refused, Sheet}
+use Rattle.making.specs.Rules.{Grammar}
+use Rattle.making.specs.Making.{FormWritten}
+
+module _ (s : List ℕ) (room : ℕ) where
+  -- a sheet that is refused
+  pub sheet-refused : (n : ℕ) → sheetReading s ≡ Refused n → (n ≡ makingRefusal s room) × (0 < n)
+  unfolding makingRefusal
+  sheet-refused n e = go (refusal s) refl e
+    where
+      go : (m : ℕ) → refusal s ≡ m → sheetAfter m s ≡ Refused n → (n ≡ makingRefusal s room) × (0 < n)
+      go zero t e = absurd (let z : _≡_ {A = ℕ} 0 1 = cc in omega arith)
+      go (suc m) t e = let z : n ≡ suc m = cc in (rw t z, omega arith)
+
+-- a sheet that is read
+pub record SheetRead (s : List ℕ) (l : Layout) : Type 0 where
+  pub passed : refusal s ≡ 0
+  pub terminals : l .terminals ≡ length (alphabetOf s)
+  pub rules : l .rules ≡ length (rulesOf s)
+  pub nodes : l .nodes ≡ nodesOf s
+  pub automaton : l .automaton ≡ bodyOffset s 2
+
+pub sheet-read : (s : List ℕ) (l : Layout) → sheetReading s ≡ Sheet l → SheetRead s l
+sheet-read s l e = go (refusal s) refl e
+  where
+    go : (m : ℕ) → refusal s ≡ m → sheetAfter m s ≡ Sheet l → SheetRead s l
+    go zero t e = record { passed = t; terminals = cc; rules = cc; nodes = cc; automaton = cc }
+    go (suc m) t e = absurd (let z : _≡_ {A = ℕ} 0 1 = cc in omega arith)
+
+module _ {s : List ℕ} {l : Layout} (r : SheetRead s l) where
+  abbrev at : ℕ
+  at = 12 + l .terminals
+
+  passed : SheetPassed s
+  passed = sheet-passed s (r .passed)
+
+  where-bodies : Joined s
+  where-bodies = joined s (passed .joined)
+
+  pub few-nodes : l .nodes ≤ 128
+  unfolding nodesOf rulesOf
+  few-nodes = omega (arith, r .nodes, rules-passed (alphabetOf s) (body s 1) (passed .rules) .few-nodes)
+
+  starts : bodyOffset s 1 ≡ at
+  starts =
+      let j = where-bodies in
+      omega (arith, r .terminals, ap length (j .alphabet), length-take-le (bodyOffset s 1 - 12) (drop 12 s) (omega (arith, length-drop 12 s, j .after-alphabet, j .after-rules)), j .after-contents)
+
+  -- where the parts lie
+  pub parts-there : (at ≤ l .automaton) × (l .automaton ≤ length s)
+  parts-there = omega (arith, starts, r .automaton, where-bodies .after-alphabet, where-bodies .after-rules)
+
+  pub alphabet-part : take (at - 12) (drop 12 s) ≡ alphabetOf s
+  alphabet-part = rw (← starts) (sym (where-bodies .alphabet))
+
+  pub rules-part : take (l .automaton - at) (drop at s) ≡ body s 1
+  rules-part = rw (r .automaton, ← starts) (sym (where-bodies .rules))
+
+  -- the refusal of a slice that is too short, and none
+  pub too-short : (room : ℕ) → room < ruleOffset (16 * l .nodes) → 17 ≡ makingRefusal s room
+  unfolding makingRefusal
+  too-short room h = rw (r .passed, lt-ltb room (ruleOffset (16 * nodesOf s)) (rw (r .nodes) at h))
+
+  pub long-enough : (room : ℕ) → ruleOffset (16 * l .nodes) ≤ room → 0 ≡ makingRefusal s room
+  unfolding makingRefusal
+  long-enough room h = rw (r .passed, le-ltb room (ruleOffset (16 * nodesOf s)) (rw (r .nodes) at h))
+
+  -- the parts are a grammar over the alphabet
+  pub grammar : (form : List ℕ) → ruleOffset (16 * l .nodes) ≤ length form → {xs ys : List ℕ} → xs ≡ alphabetOf s → ys ≡ body s 1 → Grammar form xs ys (l .rules)
+  unfolding nodesOf rulesOf
+  grammar form h a b =
+      let p = rules-passed (alphabetOf s) (body s 1) (passed .rules) in
+      rw (a, b)
+      record {
+        alphabet = alphabet-passed (alphabetOf s) (passed .alphabet);
+        proper = p .proper;
+        count = r .rules;
+        few = p .few-nodes;
+        room = rw (r .nodes) at h;
+      }
+
+  -- a form of the parts is a form of the sheet
+  pub sheet-made : {xs ys : List ℕ} {n : ℕ} {exit entry : List ℕ} → xs ≡ alphabetOf s → ys ≡ body s 1 → FormWritten xs (rulesBody ys .rules) n exit entry → FormWritten (alphabetOf s) (rulesOf s) n exit entry
+  unfolding rulesOf
+  sheet-made a b w = rw (a, b) at w

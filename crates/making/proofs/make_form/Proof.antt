@@ -1,0 +1,120 @@
+-- `making::make_form` meets its contract: the tests are those of the refusal, in its order, and the parts of the sheet that passed are a grammar over its alphabet.
+use mathlib.Core.Path.{refl, sym, _∙_}
+use native.Mathlib.Omega.{arith}
+use Rattle.making.proofs.SheetRead.{sheet-refused, sheet-read, few-nodes, parts-there, alphabet-part, rules-part, too-short, long-enough, grammar, sheet-made}
+use borrow.Author.Needs.{needs}
+use Rattle.making.proofs.make_form.Statement.{statement}
+use Rattle.making.proofs.make_form.Tie as tie
+
+read-sheet-requires : tie.Need-read-sheet-requires
+read-sheet-requires c κs = search needs
+
+enum-known-n : tie.Need-enum-known-n
+enum-known-n c = search needs
+
+enum-known-layout : tie.Need-enum-known-layout
+enum-known-layout c = search needs
+
+mul-if1 : tie.Need-mul-if1
+mul-if1 c =
+    let layout = c .before .before in
+    let read = sheet-read _ _ (sym (layout .before .before .read-sheet .ensures) ∙ layout .layout .given .1) in
+    omega (arith, few-nodes read)
+
+mul-if1-2 : tie.Need-mul-if1-2
+mul-if1-2 c =
+    let layout = c .before .before in
+    let read = sheet-read _ _ (sym (layout .before .before .read-sheet .ensures) ∙ layout .layout .given .1) in
+    omega (arith, few-nodes read)
+
+add-if1 : tie.Need-add-if1
+add-if1 c =
+    let layout = c .before .before in
+    let read = sheet-read _ _ (sym (layout .before .before .read-sheet .ensures) ∙ layout .layout .given .1) in
+    omega (arith, few-nodes read)
+
+returns : tie.Need-returns
+returns c =
+    let layout = c .before .before .before in
+    let read = sheet-read _ _ (sym (layout .before .before .read-sheet .ensures) ∙ layout .layout .given .1) in
+    (too-short read _ (c .if1 .taken), (omega arith, refl))
+
+add-rules : tie.Need-add-rules
+add-rules c =
+    let layout = c .before .before .before .before in
+    let read = sheet-read _ _ (sym (layout .before .before .read-sheet .ensures) ∙ layout .layout .given .1) in
+    omega (arith, parts-there read, layout .before .before .before .before .before .good)
+
+sub-write-form : tie.Need-sub-write-form
+sub-write-form c = search needs
+
+part-write-form-start : tie.Need-part-write-form-start
+part-write-form-start c = search needs
+
+part-write-form-end : tie.Need-part-write-form-end
+part-write-form-end c =
+    let layout = c .before .before .before .before .before in
+    let read = sheet-read _ _ (sym (layout .before .before .read-sheet .ensures) ∙ layout .layout .given .1) in
+    omega (arith, parts-there read)
+
+sub-write-form-2 : tie.Need-sub-write-form-2
+sub-write-form-2 c =
+    let layout = c .before .before .before .before .before .before in
+    let read = sheet-read _ _ (sym (layout .before .before .read-sheet .ensures) ∙ layout .layout .given .1) in
+    omega (arith, parts-there read)
+
+part-write-form-start-2 : tie.Need-part-write-form-start-2
+part-write-form-start-2 c =
+    let layout = c .before .before .before .before .before .before in
+    let read = sheet-read _ _ (sym (layout .before .before .read-sheet .ensures) ∙ layout .layout .given .1) in
+    omega (arith, parts-there read)
+
+part-write-form-end-2 : tie.Need-part-write-form-end-2
+part-write-form-end-2 c =
+    let layout = c .before .before .before .before .before .before in
+    let read = sheet-read _ _ (sym (layout .before .before .read-sheet .ensures) ∙ layout .layout .given .1) in
+    omega (arith, parts-there read)
+
+write-form-requires : tie.Need-write-form-requires
+write-form-requires c κs =
+    let layout = c .before .before .before .before .before .before .before in
+    let read = sheet-read _ _ (sym (layout .before .before .read-sheet .ensures) ∙ layout .layout .given .1) in
+    grammar read _ (c .before .before .before .before .if1 .left) (alphabet-part read) (rules-part read)
+
+returns-2 : tie.Need-returns-2
+returns-2 c =
+    let n = c .before in
+    let refused = sheet-refused _ _ _ (sym (n .before .before .read-sheet .ensures) ∙ n .n .given .1) in
+    (refused .0, (refused .1, refl))
+
+same-length : tie.Need-same-length
+same-length c = search needs
+
+returns-3 : tie.Need-returns-3
+returns-3 c =
+    let layout = c .before .before .before .before .before .before .before .before .before .before in
+    let read = sheet-read _ _ (sym (layout .before .before .read-sheet .ensures) ∙ layout .layout .given .1) in
+    (long-enough read _ (c .before .before .before .before .before .before .before .if1 .left), sheet-made read (alphabet-part read) (rules-part read) (c .before .before .write-form .ensures))
+
+pub make-form-spec : {M : Type 1} → statement M
+make-form-spec =
+    tie.close
+    (tie.spec
+    read-sheet-requires
+    enum-known-n
+    enum-known-layout
+    mul-if1
+    mul-if1-2
+    add-if1
+    returns
+    add-rules
+    sub-write-form
+    part-write-form-start
+    part-write-form-end
+    sub-write-form-2
+    part-write-form-start-2
+    part-write-form-end-2
+    write-form-requires
+    returns-2
+    same-length
+    returns-3)

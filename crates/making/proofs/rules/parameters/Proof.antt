@@ -1,0 +1,58 @@
+-- `making::rules::parameters` meets its contract: of cells that are all 0, the numbers of the first four are those of the parameters.
+use Rattle.making.proofs.Ruling.{first-cells}
+use borrow.Author.Needs.{needs}
+use Rattle.making.proofs.rules.parameters.Statement.{statement}
+use Rattle.making.proofs.rules.parameters.Tie as tie
+
+add-cells : tie.Need-add-cells
+add-cells c = search needs
+
+mul-cells : tie.Need-mul-cells
+mul-cells c = search needs
+
+array-write-cells : tie.Need-array-write-cells
+array-write-cells c = search needs
+
+mul-cells-2 : tie.Need-mul-cells-2
+mul-cells-2 c = search needs
+
+add-cells-2 : tie.Need-add-cells-2
+add-cells-2 c = search needs
+
+mul-cells-3 : tie.Need-mul-cells-3
+mul-cells-3 c = search needs
+
+array-write-cells-2 : tie.Need-array-write-cells-2
+array-write-cells-2 c = search needs
+
+mul-cells-4 : tie.Need-mul-cells-4
+mul-cells-4 c = search needs
+
+add-cells-3 : tie.Need-add-cells-3
+add-cells-3 c = search needs
+
+mul-cells-5 : tie.Need-mul-cells-5
+mul-cells-5 c = search needs
+
+array-write-cells-3 : tie.Need-array-write-cells-3
+array-write-cells-3 c = search needs
+
+returns : tie.Need-returns
+returns c = first-cells
+
+pub parameters-spec : {M : Type 1} → statement M
+parameters-spec =
+    tie.close
+    (tie.spec
+    add-cells
+    mul-cells
+    array-write-cells
+    mul-cells-2
+    add-cells-2
+    mul-cells-3
+    array-write-cells-2
+    mul-cells-4
+    add-cells-3
+    mul-cells-5
+    array-write-cells-3
+    returns)

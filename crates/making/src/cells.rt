@@ -1,0 +1,62 @@
+// Cells, each of which stands for a skeleton: what is left of a right side when everything without a parameter is a rule of the form.
+use sheets::limits::MOST_NODES;
+ghost use mathlib.Core.Path.{_≡_};
+ghost use Prim.Native.Nat.{_+_, _*_, _<_, _≤_};
+ghost use lib.ListN.{length};
+ghost use Rattle.making.specs.Bytes.{pasted};
+ghost use Rattle.making.specs.Cells.{field, CellWritten};
+
+// The fields of a cell: its kind, its number, how many children it has, and four children.
+pub(crate) const KIND: usize = 0;
+
+pub(crate) const NUMBER: usize = 1;
+
+pub(crate) const COUNT: usize = 2;
+
+pub(crate) const CHILDREN: usize = 3;
+
+pub(crate) const FIELDS: usize = 7;
+
+// The kinds: a parameter, a rule of rank 0, a rule of rank 1 over a cell, a terminal over cells.
+pub(crate) const PARAM: u16 = 0;
+
+pub(crate) const SHUT: u16 = 1;
+
+pub(crate) const UNDER: u16 = 2;
+
+pub(crate) const BRANCH: u16 = 3;
+
+// The most cells: one for each parameter, and 1 + 3 n for each node of rank n, of which a tree of k nodes has fewer than 4 k in all.
+pub(crate) const MOST_CELLS: usize = 4 + 4 * MOST_NODES;
+
+// The length of the cells' array.
+pub(crate) const SPACE: usize = FIELDS * MOST_CELLS;
+
+// A field of a cell.
+pub(crate) fn field(cells: &[u16; SPACE], cell: u16, k: usize) -> u16
+    requires { ⌜ (length (now cells) ≡ 3612) × (cell < 516) × (k < 7) ⌝ }
+    ensures { λ r. ⌜ r ≡ field (now (cells .entry)) cell k ⌝ }
+{
+    let at = FIELDS * (cell as usize) + k;
+    cells[at]
+}
+
+// The fields of a cell into its place.
+fn copy_fields(fields: &[u16; FIELDS], cells: &mut [u16; SPACE], at: usize)
+    requires { ⌜ (length (now fields) ≡ 7) × (length (now cells) ≡ 3612) × (at + 7 ≤ 3612) ⌝ }
+    ensures { λ _. ⌜ now (cells .exit) ≡ pasted at (now (fields .entry)) (now (cells .entry)) ⌝ }
+{
+    let mut i = 0;
+    while i < FIELDS {
+        cells[at + i] = fields[i];
+        i += 1;
+    }
+}
+
+// Writes a cell.
+pub(crate) fn write_cell(cells: &mut [u16; SPACE], cell: u16, fields: &[u16; FIELDS])
+    requires { ⌜ (length (now cells) ≡ 3612) × (length (now fields) ≡ 7) × (cell < 516) ⌝ }
+    ensures { λ _. ⌜ CellWritten cell (now (fields .entry)) (now (cells .exit)) (now (cells .entry)) ⌝ }
+{
+    copy_fields(fields, cells, FIELDS * (cell as usize));
+}

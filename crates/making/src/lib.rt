@@ -1,0 +1,68 @@
+// Making a one-hole form from a sheet.
+mod cells;
+mod grow;
+mod inst;
+mod put;
+mod rules;
+mod side;
+mod state;
+mod write;
+
+use crate::rules::make_rules;
+use crate::write::write_head;
+use forms::layout::HEAD;
+use forms::layout::RULE;
+use sheets::limits::CONTENTS;
+use sheets::sheet::Reading;
+use sheets::sheet::read_sheet;
+ghost use mathlib.Core.Path.{_≡_};
+ghost use lib.ListN.{length};
+ghost use Rattle.terms.specs.Calls.{makingRefusal};
+ghost use Rattle.terms.specs.Sheet.{rulesBody};
+ghost use Rattle.making.specs.Rules.{Grammar};
+ghost use Rattle.making.specs.Making.{FormWritten, refusalOf, Leaves};
+
+// How many rules of a form a node of a sheet may take.
+const RULES_FOR_NODE: usize = 16;
+
+// What making a form answers: the refusal, or the length of the form.
+pub enum Making {
+    Refused(u8),
+    Written(usize),
+}
+
+// The form of the rules of a body, whose length is the answer; later bytes are kept.
+fn write_form(form: &mut [u8], alphabet: &[u8], body: &[u8], rules: usize) -> usize
+    requires { ⌜ Grammar (now form) (now alphabet) (now body) rules ⌝ }
+    ensures { λ r. ⌜ FormWritten (now (alphabet .entry)) (rulesBody (now (body .entry)) .rules) r (now (form .exit)) (now (form .entry)) ⌝ }
+{
+    let made = make_rules(form, alphabet, body, rules);
+    let count = made.count.0 as usize;
+    let start = made.start;
+    write_head(form, count, start);
+    HEAD + RULE * count
+}
+
+// A form of the sheet, into a lent slice.
+pub fn make_form(sheet: &[u8], form: &mut [u8]) -> Making
+    ensures { λ r. ⌜ refusalOf r ≡ makingRefusal (now (sheet .entry)) (length (now (form .entry))) ⌝ }
+    ensures { λ r. ⌜ Leaves (now (sheet .entry)) r (now (form .exit)) (now (form .entry)) ⌝ }
+{
+    match read_sheet(sheet) {
+        Reading::Refused(n) => Making::Refused(n),
+        Reading::Sheet(layout) => {
+            if form.len() < HEAD + RULE * (RULES_FOR_NODE * layout.nodes) {
+                return Making::Refused(17);
+            }
+            let rules = CONTENTS + layout.terminals;
+            let automaton = layout.automaton;
+            let count = layout.rules;
+            Making::Written(write_form(
+                form,
+                &sheet[CONTENTS..rules],
+                &sheet[rules..automaton],
+                count,
+            ))
+        }
+    }
+}
