@@ -6,7 +6,9 @@ use lib.Dec.{leb, ltb, eqb}
 use lib.ListN.{length, getD, drop}
 use Rattle.terms.specs.Test.{any, tabulate}
 use Rattle.terms.specs.Refusal.{_when_, first}
-use Rattle.terms.specs.Tree.{preorder}
+use Rattle.terms.specs.Tree.{preorder, treeOf}
+use Rattle.terms.specs.Grammar.{terminalRank}
+use Rattle.terms.specs.Automaton.{mask}
 use Rattle.terms.specs.Relation.{relationAt}
 use Rattle.terms.specs.Form.{valueAt}
 use Rattle.terms.specs.Sheet.{nodesOf, transitionsOf, wrapped}
@@ -105,6 +107,14 @@ walkRefusal alphabet automaton tree room = first (
     ∷ treeRefusal mostWalked alphabet tree
     ∷ 19 when (ltb room (length tree))
     ∷ [])
+
+-- the mask of the tree that symbols in preorder begin with (01 Plain walk)
+unfoldable pub walkMask : List ℕ → List ℕ → List ℕ → ℕ
+walkMask alphabet automaton symbols = mask (transitionsOf alphabet automaton) (treeOf (terminalRank alphabet) symbols)
+
+-- the masks that the walk ends with: entry i is that of the subtree that starts at position i (01 Plain walk)
+unfoldable pub walkMasks : List ℕ → List ℕ → List ℕ → List ℕ
+walkMasks alphabet automaton tree = tabulate (length tree) (λ i. walkMask alphabet automaton (drop i tree))
 
 -- wrap: 3, 4, 22, 23, 14 to 16, 24 (01 Refusals)
 unfoldable pub wrapRefusal : List ℕ → List ℕ → List ℕ → ℕ → ℕ

@@ -7,7 +7,7 @@ use Rattle.terms.specs.Sheet.{nodesOf, Verdict, accepted, declined, shee
 use Rattle.terms.specs.Check.{refusal}
 use Rattle.terms.specs.FormBytes.{formTree}
 use Rattle.terms.specs.Count.{Size, exact, sizeOf, sizeAnswer}
-use Rattle.terms.specs.Calls.{makingRefusal, markingRefusal, openingRefusal, readingRefusal, evaluationRefusal, relationsOf, formMask, sizeRefusal, unfoldingRefusal, labelRefusal, labelAt, countsOf, walkRefusal, wrapRefusal}
+use Rattle.terms.specs.Calls.{makingRefusal, markingRefusal, openingRefusal, readingRefusal, evaluationRefusal, relationsOf, formMask, sizeRefusal, unfoldingRefusal, labelRefusal, labelAt, countsOf, walkRefusal, walkMask, walkMasks, wrapRefusal}
 
 -- the n bytes that a hexadecimal numeral writes, the first byte first (01 Sheets for the desk)
 unfoldable pub hex : ℕ → ℕ → List ℕ
@@ -322,6 +322,8 @@ calls =
     ∷ is (walkRefusal wAlphabet wAutomaton (replicate 4096 0x00) 0) 23
     ∷ is (walkRefusal wAlphabet [] (replicate 4097 0x00) 0) 14
     ∷ is (walkRefusal [] [] [] 0) 3
+    ∷ is (walkMask wAlphabet wAutomaton (hex 4 0x01020000)) 0
+    ∷ record { gives = walkMasks wAlphabet wAutomaton (hex 7 0x01020202020000); says = hex 7 0x01010201020101 }
     -- wrap: 3, 4, 22, 23, 14 to 16, 24
     ∷ is (wrapRefusal wAlphabet (hex 7 0x01020202020000) wAutomaton 50) 0
     ∷ is (wrapRefusal wAlphabet (hex 7 0x01020202020000) wAutomaton 49) 24
