@@ -1,11 +1,12 @@
 -- Lists by their places.
-use mathlib.Core.Path.{_≡_, refl, ap, _∙_}
+use mathlib.Core.Path.{_≡_, refl, sym, ap, _∙_}
 use mathlib.Core.List.{List, [], _∷_, _++_}
 use Prim.Native.Nat.{ℕ, zero, suc, _+_, _-_, _≤_, _<_}
 use native.Mathlib.Nat.{suc-add, suc-sub-suc}
 use native.Mathlib.Numerals.{one-add}
 use native.Mathlib.Omega.{arith}
 use lib.ListN.{length, getD, take}
+use lib.Seq.{ext-getD}
 use Rattle.terms.specs.Test.{tabulate}
 
 pub length-tabulate : {A : Type 0} (n : ℕ) (f : ℕ → A) → length (tabulate n f) ≡ n
@@ -41,3 +42,9 @@ unfolding tabulate
 tabulate-more i f =
     let none : suc i - suc i ≡ 0 = omega arith in
     tabulate-at i (suc i) f (omega arith) ∙ rw none
+
+-- a list by its places
+pub tabulated : {A : Type 0} (n : ℕ) (f : ℕ → A) (d : A) (xs : List A) → length xs ≡ n → ((j : ℕ) → j < n → f j ≡ getD xs j d) → tabulate n f ≡ xs
+tabulated n f d xs e h =
+    ext-getD d (tabulate n f) xs (length-tabulate n f ∙ sym e)
+    (λ j l. let m : j < n = omega (arith, length-tabulate n f) in getD-tabulate n f d j m ∙ h j m)

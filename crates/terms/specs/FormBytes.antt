@@ -1,12 +1,12 @@
 -- The bytes of a one-hole form (document 01, "One-hole form").
 use mathlib.Core.Bool.{Bool, false, cond, not, _&&_}
-use mathlib.Core.List.{List}
+use mathlib.Core.List.{List, [], _∷_, _++_}
 use Prim.Native.Nat.{ℕ, zero, suc, _+_, _*_, _-_, _%_}
 use lib.Dec.{ltb, eqb}
 use lib.ListN.{length, getD}
 use Rattle.terms.specs.Test.{every, tabulate}
 use Rattle.terms.specs.Refusal.{_when_, outside}
-use Rattle.terms.specs.Bytes.{word}
+use Rattle.terms.specs.Bytes.{word, wordBytes}
 use Rattle.terms.specs.Tree.{Tree}
 use Rattle.terms.specs.Grammar.{terminalRank}
 use Rattle.terms.specs.Form.{Rule, whole, pierced, filled, composed, treeIn, valueAt}
@@ -68,9 +68,13 @@ formTree alphabet form = treeIn (valueAt (formRules alphabet form) (startOf form
 abbrev pub callsLower : List ℕ → ℕ → ℕ → ℕ → Bool
 callsLower form i k a = ltb a i && eqb (rankAt form a) k
 
+-- what stands in a slot that is not used (01 One-hole form)
+abbrev pub unused : ℕ
+unused = 0xFFFF
+
 -- a slot that is not used (01 One-hole form)
 abbrev pub unusedSlot : ℕ → Bool
-unusedSlot a = eqb a 0xFFFF
+unusedSlot a = eqb a unused
 
 -- slot j of rule i, f(A1..An), the open place at child h, 0 where there is none: used, it has rank 0 (01 One-hole form)
 abbrev pub slotFits : List ℕ → ℕ → ℕ → ℕ → ℕ → Bool
@@ -116,3 +120,31 @@ validFor alphabet form =
 -- the refusal 18 of a form (01 One-hole form)
 unfoldable pub formRefusal : List ℕ → List ℕ → ℕ
 formRefusal alphabet form = 18 when (not (validFor alphabet form))
+
+-- How a form is written.
+
+-- the 12 bytes of a rule: kind, terminal, hole, 00 and four slots; those past the list are not used (01 One-hole form)
+abbrev pub bytesWith : ℕ → ℕ → ℕ → List ℕ → List ℕ
+bytesWith kind terminal hole slots =
+    kind ∷ terminal ∷ hole ∷ 0
+    ∷ (wordBytes (getD slots 0 unused) ++ (wordBytes (getD slots 1 unused) ++ (wordBytes (getD slots 2 unused) ++ wordBytes (getD slots 3 unused))))
+
+-- the bytes of a rule; an unused terminal is FF, an unused hole 00 (01 One-hole form)
+abbrev pub ruleBytes : Rule → List ℕ
+ruleBytes (whole f slots) = bytesWith 0 f 0 slots
+ruleBytes (pierced f ls rs) = bytesWith 1 f (suc (length ls)) (ls ++ (unused ∷ rs))
+ruleBytes (filled b c) = bytesWith 2 0xFF 0 (b ∷ c ∷ [])
+ruleBytes (composed b c) = bytesWith 3 0xFF 0 (b ∷ c ∷ [])
+
+-- the bytes of rules, one after another (01 One-hole form)
+unfoldable pub rulesBytes : List Rule → List ℕ
+rulesBytes [] = []
+rulesBytes (r ∷ rules) = ruleBytes r ++ rulesBytes rules
+
+-- the 4 bytes of a head: how many rules there are, and the start (01 One-hole form)
+abbrev pub headBytes : ℕ → ℕ → List ℕ
+headBytes count start = wordBytes count ++ wordBytes start
+
+-- the bytes of a form: its head and its rules (01 One-hole form)
+unfoldable pub formBytes : List Rule → ℕ → List ℕ
+formBytes rules start = headBytes (length rules) start ++ rulesBytes rules

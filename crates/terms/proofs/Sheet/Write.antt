@@ -13,7 +13,8 @@ use Rattle.terms.specs.Check.{alphabetRefusal, rulesRefusal, automatonRe
 use Rattle.terms.proofs.Sheet.Passed.{alphabet-passed}
 use Rattle.terms.proofs.Sheet.Automaton.{automaton-passed}
 
-word-back : (n : ℕ) → n < 65536 → n % 256 + 256 * (n / 256 % 256) ≡ n
+-- a number from its two bytes
+pub word-back : (n : ℕ) → n < 65536 → n % 256 + 256 * (n / 256 % 256) ≡ n
 word-back n h = omega arith
 
 module _ (alphabet rules automaton : List ℕ) (fits : 12 + (length alphabet + (length rules + length automaton)) < 65536) where

@@ -1,0 +1,141 @@
+-- How a form is written: where each byte stands, that these bytes are the only ones, and that a valid form is read as its rules.
+use mathlib.Core.Path.{_≡_, refl, sym, _∙_}
+use mathlib.Core.List.{List, [], _∷_, _++_}
+use Prim.Native.Nat.{ℕ, zero, suc, _+_, _*_, _-_, _/_, _%_, _≤_, _<_}
+use native.Mathlib.Omega.{arith}
+use native.Mathlib.Decide.{decLt}
+use lib.ListN.{length, getD, length-append, List·getD-append}
+use lib.Seq.{ext-getD, getD-append-add}
+use Rattle.terms.specs.Bytes.{word}
+use Rattle.terms.specs.Form.{Rule, whole, pierced, filled, composed, ruleAt, Has, Slots, Fits, Valid}
+use Rattle.terms.specs.FormBytes.{ruleCount, startOf, ruleOffset, ruleByte, unused, bytesWith, ruleBytes, rulesBytes, headBytes, formBytes}
+use Rattle.terms.proofs.Sheet.Passed.{AlphabetPassed}
+use Rattle.terms.proofs.Sheet.Write.{word-back}
+use Rattle.terms.proofs.Form.Fields.{Fields, Says, FormRead, form-read}
+
+-- where the bytes stand
+
+length-rule : (r : Rule) → length (ruleBytes r) ≡ 12
+length-rule (whole f slots) = refl
+length-rule (pierced f ls rs) = refl
+length-rule (filled b c) = refl
+length-rule (composed b c) = refl
+
+length-rules : (rules : List Rule) → length (rulesBytes rules) ≡ 12 * length rules
+unfolding rulesBytes
+length-rules [] = refl
+length-rules (r ∷ rules) = omega (arith, length-append (ruleBytes r) (rulesBytes rules), length-rule r, length-rules rules)
+
+rules-at : (rules : List Rule) (i k : ℕ) → i < length rules → k < 12 → getD (rulesBytes rules) (12 * i + k) 0 ≡ getD (ruleBytes (ruleAt rules i)) k 0
+unfolding rulesBytes
+rules-at [] i k h l = absurd (omega arith)
+rules-at (r ∷ rules) zero k h l =
+    let e : 12 * 0 + k ≡ k = omega arith in
+    rw e (List·getD-append (ruleBytes r) (rulesBytes rules) 0 k (omega (arith, length-rule r)))
+rules-at (r ∷ rules) (suc i) k h l =
+    let e : 12 * suc i + k ≡ length (ruleBytes r) + (12 * i + k) = omega (arith, length-rule r) in
+    rw e (getD-append-add (ruleBytes r) (rulesBytes rules) (12 * i + k) 0 ∙ rules-at rules i k (omega arith) l)
+
+module _ (rules : List Rule) (start : ℕ) where
+  abbrev bytes : List ℕ
+  bytes = formBytes rules start
+
+  pub length-form : length bytes ≡ ruleOffset (length rules)
+  unfolding formBytes
+  length-form = omega (arith, length-rules rules)
+
+  head-at : (k : ℕ) → k < 4 → getD bytes k 0 ≡ getD (headBytes (length rules) start) k 0
+  unfolding formBytes
+  head-at k h = List·getD-append (headBytes (length rules) start) (rulesBytes rules) 0 k h
+
+  rule-at : (i k : ℕ) → i < length rules → k < 12 → ruleByte bytes i k ≡ getD (ruleBytes (ruleAt rules i)) k 0
+  unfolding formBytes
+  rule-at i k h l =
+      let e : ruleOffset i + k ≡ 4 + (12 * i + k) = omega arith in
+      rw e (getD-append-add (headBytes (length rules) start) (rulesBytes rules) (12 * i + k) 0 ∙ rules-at rules i k h l)
+
+  -- no other bytes have the head and the rules in their places
+  module _ (form : List ℕ) (long : length form ≡ ruleOffset (length rules)) (head : (k : ℕ) → k < 4 → getD form k 0 ≡ getD (headBytes (length rules) start) k 0)
+      (each : (i k : ℕ) → i < length rules → k < 12 → ruleByte form i k ≡ getD (ruleBytes (ruleAt rules i)) k 0) where
+    same : (k : ℕ) → k < length form → Dec (k < 4) → getD form k 0 ≡ getD bytes k 0
+    same k h (yes l) = head k l ∙ sym (head-at k l)
+    same k h (no l) =
+        let i = (k - 4) / 12 in
+        let m = (k - 4) % 12 in
+        let e : k ≡ ruleOffset i + m = omega arith in
+        rw e (each i m (omega arith) (omega arith) ∙ sym (rule-at i m (omega arith) (omega arith)))
+
+    pub only-bytes : form ≡ bytes
+    only-bytes = ext-getD 0 form bytes (long ∙ sym length-form) (λ k h. same k h (decLt k 4))
+
+-- numbers of two bytes
+
+word-of : (bytes : List ℕ) (i n : ℕ) → n < 65536 → getD bytes i 0 ≡ n % 256 → getD bytes (i + 1) 0 ≡ n / 256 % 256 → word bytes i ≡ n
+unfolding word
+word-of bytes i n h lo hi = rw (lo, hi) (word-back n h)
+
+module _ (form : List ℕ) (i kind f h : ℕ) (slots : List ℕ) (narrow : (j : ℕ) → getD slots j unused < 65536)
+    (each : (k : ℕ) → k < 12 → ruleByte form i k ≡ getD (bytesWith kind f h slots) k 0) where
+  slot-read : (k j : ℕ) → k + 1 < 12 → getD (bytesWith kind f h slots) k 0 ≡ getD slots j unused % 256 → getD (bytesWith kind f h slots) (k + 1) 0 ≡ getD slots j unused / 256 % 256
+      → word form (ruleOffset i + k) ≡ getD slots j unused
+  slot-read k j l lo hi =
+      let e : ruleOffset i + k + 1 ≡ ruleOffset i + (k + 1) = omega arith in
+      word-of form (ruleOffset i + k) (getD slots j unused) (narrow j) (each k (omega arith) ∙ lo) (rw e (each (k + 1) l ∙ hi))
+
+  slots-read : (j : ℕ) → j < 4 → word form (ruleOffset i + (4 + 2 * j)) ≡ getD slots j unused
+  slots-read zero l = slot-read 4 0 (omega arith) refl refl
+  slots-read (suc zero) l = slot-read 6 1 (omega arith) refl refl
+  slots-read (suc (suc zero)) l = slot-read 8 2 (omega arith) refl refl
+  slots-read (suc (suc (suc zero))) l = slot-read 10 3 (omega arith) refl refl
+  slots-read (suc (suc (suc (suc j)))) l = absurd (omega arith)
+
+  fields-read : Fields form i kind f h slots
+  fields-read = record {
+    kind = each 0 (omega arith);
+    terminal = each 1 (omega arith);
+    hole = each 2 (omega arith);
+    fourth = each 3 (omega arith);
+    slot = slots-read;
+  }
+
+-- the slots of a rule that fits are numbers of two bytes
+module _ (rules : List Rule) (n : ℕ) (few : n ≤ 2048) where
+  has-narrow : {k a : ℕ} → Has rules n k a → a < 65536
+  has-narrow p = omega (arith, p .below)
+
+  slots-narrow : (slots : List ℕ) → Slots rules n slots → (j : ℕ) → getD slots j unused < 65536
+  slots-narrow [] p j = omega arith
+  slots-narrow (a ∷ slots) p zero = has-narrow (p .0)
+  slots-narrow (a ∷ slots) p (suc j) = slots-narrow slots (p .1) j
+
+  pierced-narrow : (ls rs : List ℕ) → Slots rules n ls → Slots rules n rs → (j : ℕ) → getD (ls ++ (unused ∷ rs)) j unused < 65536
+  pierced-narrow [] rs p q zero = omega arith
+  pierced-narrow [] rs p q (suc j) = slots-narrow rs q j
+  pierced-narrow (a ∷ ls) rs p q zero = has-narrow (p .0)
+  pierced-narrow (a ∷ ls) rs p q (suc j) = pierced-narrow ls rs (p .1) q j
+
+  chain-narrow : {k l : ℕ} (b c : ℕ) → Has rules n k b → Has rules n l c → (j : ℕ) → getD (b ∷ c ∷ []) j unused < 65536
+  chain-narrow b c p q zero = has-narrow p
+  chain-narrow b c p q (suc zero) = has-narrow q
+  chain-narrow b c p q (suc (suc j)) = omega arith
+
+  rule-says : (alphabet form : List ℕ) (i : ℕ) (r : Rule) → Fits alphabet rules n r → ((k : ℕ) → k < 12 → ruleByte form i k ≡ getD (ruleBytes r) k 0) → Says form i r
+  rule-says alphabet form i (whole f slots) p each = fields-read form i 0 f 0 slots (slots-narrow slots (p .0)) each
+  rule-says alphabet form i (pierced f ls rs) p each = fields-read form i 1 f (suc (length ls)) (ls ++ (unused ∷ rs)) (pierced-narrow ls rs (p .0) (p .1)) each
+  rule-says alphabet form i (filled b c) p each = fields-read form i 2 0xFF 0 (b ∷ c ∷ []) (chain-narrow b c (p .0) (p .1)) each
+  rule-says alphabet form i (composed b c) p each = fields-read form i 3 0xFF 0 (b ∷ c ∷ []) (chain-narrow b c (p .0) (p .1)) each
+
+-- the bytes of a valid form are accepted and read as its rules
+module _ (rules : List Rule) (start : ℕ) (few : length rules ≤ 2048) where
+  pub counted : ruleCount (formBytes rules start) ≡ length rules
+  counted = word-of (formBytes rules start) 0 (length rules) (omega arith) (head-at rules start 0 (omega arith)) (head-at rules start 1 (omega arith))
+
+  begun : start < 65536 → startOf (formBytes rules start) ≡ start
+  begun h = word-of (formBytes rules start) 2 start h (head-at rules start 2 (omega arith)) (head-at rules start 3 (omega arith))
+
+pub written-form : (alphabet : List ℕ) (rules : List Rule) (start : ℕ) → length rules ≤ 2048 → AlphabetPassed alphabet → Valid alphabet rules
+    → Has rules (length rules) 0 start → FormRead alphabet (formBytes rules start) rules start
+written-form alphabet rules start few a v from =
+    form-read alphabet (formBytes rules start) rules start a v
+    (λ i h. rule-says rules i (omega arith) alphabet (formBytes rules start) i (ruleAt rules i) (v .fits i h) (λ k l. rule-at rules start i k h l))
+    (counted rules start few) (begun rules start few (omega (arith, from .below))) (length-form rules start) few from
