@@ -13,8 +13,9 @@ use Rattle.terms.proofs.Model.Skeleton.{Skeleton, Skeletons, param, shut, under
 use Rattle.terms.proofs.Model.Make.{Sort, closed, single, several, front, ahead, place, sort}
 use Rattle.terms.proofs.Making.Skeleton.{size}
 use Rattle.terms.specs.Form.{whole, pierced}
+use Rattle.terms.specs.FormBytes.{unused}
 use Rattle.forms.specs.declared.rule.FormRule.{FormRule}
-use Rattle.making.specs.Bytes.{unused, fieldsWith, fieldsFor}
+use Rattle.making.specs.Bytes.{fieldsWith, fieldsFor}
 use Rattle.making.specs.Cells.{field, Stands, Row}
 use Rattle.making.specs.Grow.{withChild, Sorted, Within, Opens, slotAt, fieldsOver}
 use Rattle.making.specs.declared.grow.Open.{Open}

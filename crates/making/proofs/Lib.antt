@@ -1,6 +1,5 @@
 pub mod Pasted
 pub mod Held
-pub mod Written
 pub mod Standing
 pub mod Adding
 pub mod Putting

@@ -3,29 +3,17 @@ use mathlib.Core.Path.{_≡_}
 use mathlib.Core.List.{List, [], _∷_, _++_}
 use Prim.Native.Nat.{ℕ, suc, _+_, _<_, _≤_}
 use lib.ListN.{length, getD, take, drop}
-use Rattle.terms.specs.Bytes.{wordBytes}
 use Rattle.terms.specs.Form.{Rule, whole, pierced, filled, composed, ruleAt}
-use Rattle.terms.specs.FormBytes.{ruleCount, startOf, ruleOffset, ruleByte}
+use Rattle.terms.specs.FormBytes.{ruleOffset, ruleByte, unused, bytesWith, ruleBytes, headBytes}
 use Rattle.forms.specs.declared.rule.FormRule.{FormRule}
-use Rattle.forms.specs.Reading.{fieldsOf}
 
 -- bytes put into a list at a place (01 One-hole form)
 abbrev pub pasted : ℕ → List ℕ → List ℕ → List ℕ
 pasted at bytes l = take at l ++ (bytes ++ drop (at + length bytes) l)
 
 -- the 12 bytes of a rule with these fields (01 One-hole form)
-abbrev pub ruleBytes : FormRule → List ℕ
-ruleBytes r =
-    r .kind ∷ r .terminal .0 ∷ r .hole ∷ 0
-    ∷ (wordBytes (r .slot0 .0) ++ (wordBytes (r .slot1 .0) ++ (wordBytes (r .slot2 .0) ++ wordBytes (r .slot3 .0))))
-
--- the 4 bytes of a head (01 One-hole form)
-abbrev pub headBytes : ℕ → ℕ → List ℕ
-headBytes count start = wordBytes count ++ wordBytes start
-
--- what stands in a slot that is not used (01 One-hole form)
-abbrev pub unused : ℕ
-unused = 0xFFFF
+abbrev pub bytesOf : FormRule → List ℕ
+bytesOf r = bytesWith (r .kind) (r .terminal .0) (r .hole) (r .slot0 .0 ∷ r .slot1 .0 ∷ r .slot2 .0 ∷ r .slot3 .0 ∷ [])
 
 -- the fields of a rule, by the list of its slots (01 One-hole form)
 abbrev pub fieldsWith : ℕ → ℕ → ℕ → List ℕ → FormRule
@@ -48,8 +36,7 @@ fieldsFor (composed b c) = fieldsWith 3 0xFF 0 (b ∷ c ∷ [])
 
 -- the bytes hold the rules, from rule 0 on (01 One-hole form)
 pub record Holds (form : List ℕ) (rules : List Rule) : Type 0 where
-  pub fields : (i : ℕ) → i < length rules → fieldsOf form i ≡ fieldsFor (ruleAt rules i)
-  pub fourth : (i : ℕ) → i < length rules → ruleByte form i 3 ≡ 0
+  pub bytes : (i k : ℕ) → i < length rules → k < 12 → ruleByte form i k ≡ getD (ruleBytes (ruleAt rules i)) k 0
 
 -- a list that differs from another only from a place on, for as many elements as are given (01 One-hole form)
 pub record Kept (at size : ℕ) (exit entry : List ℕ) : Type 0 where
@@ -59,12 +46,10 @@ pub record Kept (at size : ℕ) (exit entry : List ℕ) : Type 0 where
 
 -- the rule of a number is written, and nothing else (01 One-hole form)
 pub record RuleWritten (number : ℕ) (rule : FormRule) (exit entry : List ℕ) : Type 0 where
-  pub fields : fieldsOf exit number ≡ rule
-  pub fourth : ruleByte exit number 3 ≡ 0
+  pub bytes : (k : ℕ) → k < 12 → ruleByte exit number k ≡ getD (bytesOf rule) k 0
   pub kept : Kept (ruleOffset number) 12 exit entry
 
 -- the head is written, and nothing else (01 One-hole form)
 pub record HeadWritten (count start : ℕ) (exit entry : List ℕ) : Type 0 where
-  pub counted : ruleCount exit ≡ count
-  pub begun : startOf exit ≡ start
+  pub bytes : (k : ℕ) → k < 4 → getD exit k 0 ≡ getD (headBytes count start) k 0
   pub kept : Kept 0 4 exit entry

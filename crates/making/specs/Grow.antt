@@ -6,11 +6,12 @@ use Prim.Native.Nat.{ℕ, suc, _+_, _≤_, _<_}
 use lib.Dec.{ltb, eqb}
 use lib.ListN.{length, getD}
 use Rattle.terms.specs.Form.{Rule}
+use Rattle.terms.specs.FormBytes.{unused}
 use Rattle.terms.proofs.Model.Skeleton.{Skeletons}
 use Rattle.terms.proofs.Model.Make.{Sort, closed, single, several, sort, grow}
 use Rattle.terms.proofs.Making.Skeleton.{size}
 use Rattle.forms.specs.declared.rule.FormRule.{FormRule}
-use Rattle.making.specs.Bytes.{unused, Holds}
+use Rattle.making.specs.Bytes.{Holds}
 use Rattle.making.specs.Cells.{field, Row, branchFields}
 use Rattle.making.specs.State.{CellAdded, Grown, Stood}
 use Rattle.making.specs.declared.grow.Open.{Open}

@@ -7,11 +7,14 @@ use Rattle.terms.specs.Grammar.{Rule, nodeCount, derived}
 use Rattle.terms.specs.Form.{formBound}
 use Rattle.terms.specs.FormBytes.{ruleCount, formTree, formRefusal}
 use Rattle.terms.specs.Sheet.{alphabetOf, rulesOf}
+use Rattle.terms.proofs.Model.Form.{madeForm}
 use Rattle.making.specs.declared.Making.{Making}
 use Rattle.making.specs.declared.Making.the-variants.{Refused, Written}
 
 -- the first n bytes of a slice are a form of a grammar, no longer than both bounds, and the later ones are kept (01 One-hole form)
 pub record FormWritten (alphabet : List ℕ) (grammar : List Rule) (n : ℕ) (exit entry : List ℕ) : Type 0 where
+  -- the bytes hang on the sheet alone, whatever the slice held
+  pub bytes : take n exit ≡ madeForm alphabet grammar
   pub accepted : formRefusal alphabet (take n exit) ≡ 0
   pub tree : formTree alphabet (take n exit) ≡ derived alphabet grammar
   pub few : ruleCount (take n exit) ≤ formBound grammar

@@ -5,14 +5,14 @@ use forms::rule::FormRule;
 use sheets::write::copy_at;
 use terms::Rule;
 ghost use mathlib.Core.Path.{_≡_};
-ghost use Prim.Native.Nat.{_+_, _<_, _≤_};
+ghost use Prim.Native.Nat.{_+_, _≤_};
 ghost use lib.ListN.{length};
-ghost use Rattle.terms.specs.FormBytes.{ruleOffset};
-ghost use Rattle.making.specs.Bytes.{ruleBytes, headBytes, RuleWritten, HeadWritten};
+ghost use Rattle.terms.specs.FormBytes.{ruleOffset, headBytes};
+ghost use Rattle.making.specs.Bytes.{bytesOf, RuleWritten, HeadWritten};
 
 // The bytes of a rule.
 fn rule_bytes(rule: FormRule) -> [u8; RULE]
-    ensures { λ r. ⌜ r ≡ ruleBytes rule ⌝ }
+    ensures { λ r. ⌜ r ≡ bytesOf rule ⌝ }
 {
     [
         rule.kind,
@@ -53,7 +53,7 @@ pub(crate) fn write_rule(form: &mut [u8], number: Rule, rule: FormRule)
 
 // Writes the head: the number of rules, and the start.
 pub(crate) fn write_head(form: &mut [u8], count: usize, start: Rule)
-    requires { ⌜ (4 ≤ length (now form)) × (count < 65536) ⌝ }
+    requires { ⌜ 4 ≤ length (now form) ⌝ }
     ensures { λ _. ⌜ HeadWritten count (start .0) (now (form .exit)) (now (form .entry)) ⌝ }
 {
     let bytes = head_bytes(count, start);

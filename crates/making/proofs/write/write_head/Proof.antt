@@ -1,5 +1,4 @@
 -- `making::write::write_head` meets its contract: the head's bytes are copied in at the front.
-use native.Mathlib.Omega.{arith}
 use borrow.Author.Needs.{needs}
 use denote.Ref.{now}
 use Rattle.making.proofs.Pasted.{head-written}
@@ -24,7 +23,7 @@ returns c =
     let bytes = copied .before .before .before in
     let start = bytes .before .before in
     let a = start .args in
-    head-written (a .count) (a .start .0) _ _ (now (a .form)) (start .pre .1) (omega (arith, start .good)) (start .pre .0) (bytes .head-bytes .ensures) (copied .copy-at .ensures)
+    head-written (a .count) (a .start .0) _ _ (now (a .form)) (start .pre) (bytes .head-bytes .ensures) (copied .copy-at .ensures)
 
 pub write-head-spec : {M : Type 1} → statement M
 write-head-spec =

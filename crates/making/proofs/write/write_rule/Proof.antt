@@ -1,8 +1,7 @@
 -- `making::write::write_rule` meets its contract: the rule's bytes are copied in at its place.
-use native.Mathlib.Omega.{arith}
 use borrow.Author.Needs.{needs}
 use denote.Ref.{now}
-use Rattle.making.proofs.Pasted.{Narrow, rule-written}
+use Rattle.making.proofs.Pasted.{rule-written}
 use Rattle.making.proofs.write.write_rule.Statement.{statement}
 use Rattle.making.proofs.write.write_rule.Tie as tie
 
@@ -33,8 +32,7 @@ returns c =
     let bytes = copied .before .before .before .before in
     let start = bytes .before .before in
     let a = start .args in
-    let narrow : Narrow (a .rule) = record { slot0 = omega (arith, start .good); slot1 = omega (arith, start .good); slot2 = omega (arith, start .good); slot3 = omega (arith, start .good) } in
-    rule-written (a .number .0) (a .rule) _ _ (now (a .form)) narrow (start .pre) (bytes .rule-bytes .ensures) (copied .copy-at .ensures)
+    rule-written (a .number .0) (a .rule) _ _ (now (a .form)) (start .pre) (bytes .rule-bytes .ensures) (copied .copy-at .ensures)
 
 pub write-rule-spec : {M : Type 1} → statement M
 write-rule-spec =
