@@ -5,18 +5,17 @@ use Prim.Native.Nat.{ℕ, zero, suc, _*_, _-_, _≤_, _<_}
 use native.Mathlib.Omega.{arith}
 use lib.ListN.{length, length-append, List·getD-append}
 use lib.Seq.{getD-at}
-use Rattle.terms.specs.Grammar.{Name, terminal, nonterminal, parameter, nothing, Rule, ruleAt, ruleRank, rankIn, rightSide, isParameter, Proper}
+use Rattle.terms.specs.Grammar.{Rule, ruleAt, ruleRank, rankIn, rightSide, Proper}
 use Rattle.terms.specs.Form.{Rule as FormRule}
-use Rattle.terms.proofs.Grammar.Sum.{over-cong}
-use Rattle.terms.proofs.Grammar.Fine.{Fine, right-preorder, right-fine}
 use Rattle.terms.proofs.Model.Skeleton.{Skeleton, Skeletons, param, shut, under, branch, nil, cons, nth}
 use Rattle.terms.proofs.Model.Make.{Form, skeletonOf}
 use Rattle.terms.proofs.Model.Scan.{scan, scanned}
 use Rattle.terms.proofs.Making.Skeleton.{weight}
 use Rattle.terms.proofs.Making.Good.{Good, Goods}
 use Rattle.terms.proofs.Making.Scan.{scanned-right}
-use Rattle.terms.proofs.Making.Occurrence.{spot, own, Once, weight-linear}
+use Rattle.terms.proofs.Making.Occurrence.{weight-linear}
 use Rattle.terms.proofs.Making.Correct.{make-correct, make-few}
+use Rattle.terms.proofs.Making.Result.{fine, once}
 use Rattle.making.specs.Inst.{Bounded, AllBounded}
 
 -- the parameters of a good skeleton are below its rank
@@ -50,28 +49,14 @@ module _ (alphabet : List ℕ) (rules : List Rule) where
   unfolding scanned
   new-skeleton i = getD-at (made i .skeletons) _ [] (branch 0 nil) i (counts i)
 
-  module _ (p : Proper alphabet rules) where
-    fine : (i : ℕ) → i < length rules → Fine alphabet (ruleRank rules) i (ruleRank rules i) (rightSide alphabet rules i)
-    fine i h = right-fine alphabet rules i (p .proper i h)
+  module _ (p : Proper alphabet rules) (k : ℕ) (few : k ≤ length rules) (r : ℕ) (h : r < k) where
+    good : Good alphabet (made k .rules) (ruleRank rules r) (skeletonOf (made k) r)
+    good = rw (scanned-right alphabet rules p k few) (make-correct alphabet (ruleRank rules) (rightSide alphabet rules) k (λ i l. fine alphabet rules p i (omega arith)) .good r h)
 
-    parameter-own : (j : ℕ) (x : Name) → own (spot j 1) x ≡ isParameter j x
-    parameter-own j (terminal f) = refl
-    parameter-own j (nonterminal r) = refl
-    parameter-own j (parameter i) = refl
-    parameter-own j nothing = refl
+    pub lower-bounded : Bounded (ruleRank rules r) (skeletonOf (made k) r)
+    lower-bounded = bounded-good alphabet (made k .rules) (ruleRank rules r) (skeletonOf (made k) r) good
 
-    once : (i : ℕ) → i < length rules → Once (rightSide alphabet rules i)
-    once i h j =
-        rw (right-preorder alphabet rules i (p .proper i h), over-cong (own (spot j 1)) (isParameter j) (parameter-own j) (ruleAt rules i .nodes)) (p .proper i h .once j)
-
-    module _ (k : ℕ) (few : k ≤ length rules) (r : ℕ) (h : r < k) where
-      good : Good alphabet (made k .rules) (ruleRank rules r) (skeletonOf (made k) r)
-      good = rw (scanned-right alphabet rules p k few) (make-correct alphabet (ruleRank rules) (rightSide alphabet rules) k (λ i l. fine i (omega arith)) .good r h)
-
-      pub lower-bounded : Bounded (ruleRank rules r) (skeletonOf (made k) r)
-      lower-bounded = bounded-good alphabet (made k .rules) (ruleRank rules r) (skeletonOf (made k) r) good
-
-      pub lower-light : weight (skeletonOf (made k) r) ≤ 4 * ruleRank rules r - 3
-      lower-light =
-          weight-linear alphabet (made k .rules) (ruleRank rules r) (skeletonOf (made k) r) good
-          (rw (scanned-right alphabet rules p k few) (make-few alphabet (ruleRank rules) (rightSide alphabet rules) k (λ i l. fine i (omega arith)) (λ i l. once i (omega arith)) .linear r h))
+    pub lower-light : weight (skeletonOf (made k) r) ≤ 4 * ruleRank rules r - 3
+    lower-light =
+        weight-linear alphabet (made k .rules) (ruleRank rules r) (skeletonOf (made k) r) good
+        (rw (scanned-right alphabet rules p k few) (make-few alphabet (ruleRank rules) (rightSide alphabet rules) k (λ i l. fine alphabet rules p i (omega arith)) (λ i l. once alphabet rules p i (omega arith)) .linear r h))
