@@ -11,7 +11,7 @@ use Rattle.terms.proofs.Model.Skeleton.{Skeleton, Skeletons, param, shut, under
 use Rattle.terms.proofs.Model.Make.{inst, insts}
 use Rattle.terms.proofs.Making.Skeleton.{size, weight, weights}
 use Rattle.making.specs.Bytes.{Holds}
-use Rattle.making.specs.Cells.{field, childrenOf, Stands, Row}
+use Rattle.making.specs.Cells.{spaceLength, field, childrenOf, Stands, Row}
 use Rattle.making.specs.State.{Room, Grown, Stood}
 use Rattle.making.specs.Grow.{Children, Grows}
 use Rattle.making.specs.Inst.{Bounded, AllBounded, Instance, Instanced, From, InstanceFrom, StoodRow, InstancedFrom}
@@ -108,7 +108,7 @@ module _ {form space : List ℕ} {free : Free} {xs : List ℕ} {cell j : ℕ} (i
     pub child-same : (k : ℕ) → k < 7 → field space₁ cell k ≡ field space cell k
     child-same k h = grown₁ .below (7 * cell + k) (omega (arith, i .lower))
 
-    pub child-long : length space₁ ≡ 3612
+    pub child-long : length space₁ ≡ spaceLength
     child-long = grown₁ .all ∙ i .room .all
 
     stands₁ : (s : Skeleton) → Stands space child s → Stands space₁ child s

@@ -8,6 +8,7 @@ use lib.ListN.{length, getD, drop, set, replicate, length-drop, length-set}
 use lib.Seq.{drop-cons, getD-set-same, getD-set-other, length-take-le}
 use Rattle.terms.specs.Grammar.{Rule, ruleAt, ruleRank, rankIn}
 use Rattle.terms.specs.Sheet.{rulesBody}
+use Rattle.terms.specs.Check.{mostRules}
 use Rattle.terms.specs.FormBytes.{ruleOffset}
 use Rattle.terms.proofs.Form.Bytes.{rank-le}
 use Rattle.terms.proofs.Model.Skeleton.{param, shut, nth}
@@ -16,7 +17,7 @@ use Rattle.terms.proofs.Model.Scan.{scan, scanned}
 use Rattle.terms.proofs.Making.Result.{scanned-form}
 use Rattle.sheets.proofs.Laws.Body.{nodesAt, behind, ruleThere, opened, Passed, none-passed, rule-passed}
 use Rattle.making.specs.Bytes.{Holds}
-use Rattle.making.specs.Cells.{field, Stands}
+use Rattle.making.specs.Cells.{mostCells, spaceLength, field, Stands}
 use Rattle.making.specs.State.{Room, Grown, Stood}
 use Rattle.making.specs.Side.{Known, RightSide, SideMade}
 use Rattle.making.specs.Rules.{Parameters, Grammar, modelOf, RulesMade}
@@ -27,10 +28,10 @@ use Rattle.making.proofs.Adding.{grown-stands}
 use Rattle.making.proofs.Lower.{old-skeleton, new-skeleton, lower-bounded, lower-light}
 
 -- the cells of the parameters
-pub first-cells : Parameters (set (set (set (replicate 3612 0) 8 1) 15 2) 22 3)
-first-cells = record { all = refl; parameters = each }
+pub first-cells : {space : List ℕ} → space ≡ replicate spaceLength 0 → Parameters (set (set (set space 8 1) 15 2) 22 3)
+first-cells e = rw e record { all = refl; parameters = each }
   where
-    each : (j : ℕ) → j < 4 → Stands (set (set (set (replicate 3612 0) 8 1) 15 2) 22 3) j (param j)
+    each : (j : ℕ) → j < 4 → Stands (set (set (set (replicate spaceLength 0) 8 1) 15 2) 22 3) j (param j)
     each zero h = (refl, refl)
     each (suc zero) h = (refl, refl)
     each (suc (suc zero)) h = (refl, refl)
@@ -49,17 +50,17 @@ module _ {form₀ alphabet body : List ℕ} {count : ℕ} (g : Grammar form₀ a
     pub nodes : ℕ
     pub passed : Passed body at i nodes
     pub rest : drop i rules ≡ rulesBody (drop at body) .rules
-    pub ranked : length ranks ≡ 64
+    pub ranked : length ranks ≡ mostRules
     pub known : Known space free ranks roots rules i (skeletonOf (made i))
     pub held : Holds form (made i .rules)
     pub counted : free .rule .0 ≡ length (made i .rules)
     pub few-rules : free .rule .0 ≤ 16 * nodes
     pub few-cells : free .cell ≤ 4 + 4 * nodes
-    pub all : length space ≡ 3612
+    pub all : length space ≡ spaceLength
     pub long : length form ≡ length form₀
     pub kept : (k : ℕ) → ruleOffset (free .rule .0) ≤ k → getD form k 0 ≡ getD form₀ k 0
 
-  pub none-made : {space : List ℕ} {free : Free} {ranks roots : List ℕ} → Parameters space → free .rule .0 ≡ 0 → free .cell ≡ 4 → length ranks ≡ 64 → length roots ≡ 64
+  pub none-made : {space : List ℕ} {free : Free} {ranks roots : List ℕ} → Parameters space → free .rule .0 ≡ 0 → free .cell ≡ 4 → length ranks ≡ mostRules → length roots ≡ mostRules
       → Making 0 0 form₀ space free ranks roots
   unfolding scanned
   none-made {space} {free} {ranks} {roots} p rule cell ranked rooted = record {
@@ -86,7 +87,7 @@ module _ {form₀ alphabet body : List ℕ} {count : ℕ} (g : Grammar form₀ a
     kept = λ k h. refl;
   }
 
-  pub few-rules : count ≤ 64
+  pub few-rules : count ≤ mostRules
   few-rules = omega (arith, g .count, g .proper .few)
 
   -- one rule
@@ -159,7 +160,7 @@ module _ {form₀ alphabet body : List ℕ} {count : ℕ} (g : Grammar form₀ a
       known-next : Known space′ (r .free) (set ranks i (getD body at 0)) (set roots i (r .cell)) rules (suc i) (skeletonOf (made (suc i)))
       known-next =
           let k = s .known in
-          let i64 : i < 64 = omega (arith, few-rules) in
+          let i64 : i < mostRules = omega (arith, few-rules) in
           let upto : suc i ≤ length rules = omega (arith, inside) in
           let rooted : i < length roots = omega (arith, k .rooted) in
           let here : getD (set roots i (r .cell)) i 0 ≡ r .cell = getD-set-same roots i (r .cell) 0 rooted in
@@ -221,7 +222,7 @@ module _ {form₀ alphabet body : List ℕ} {count : ℕ} (g : Grammar form₀ a
         let z : n ≡ length rules - 1 = omega (arith, g .count) in
         rw z (final .known .lower (length rules - 1) last)
 
-    pub cells-fit : free .cell ≤ 516
+    pub cells-fit : free .cell ≤ mostCells
     cells-fit = omega (arith, s .few-cells, s .passed .nodes, g .few)
 
     -- the start's cell stands for a rule of the form

@@ -11,6 +11,7 @@ use lib.Seq.{drop-cons, getD-drop, drop-drop, drop-set-lt, getD-set-same, take-a
 use Rattle.terms.specs.Test.{all}
 use Rattle.terms.specs.Tree.{Wholes, exactly, lacking, taking, wholes}
 use Rattle.terms.specs.Grammar.{Name, terminal, nonterminal, parameter, nothing, name, ruleRank, nameRank, rankIn, allowed}
+use Rattle.terms.specs.Check.{mostRules, mostNodes}
 use Rattle.terms.proofs.Test.{both-0, both-1, is-true}
 use Rattle.terms.proofs.Scan.{wholes-part}
 use Rattle.terms.proofs.Model.Skeleton.{Skeletons, param, nil, cons}
@@ -88,9 +89,9 @@ module _ {form₀ space₀ : List ℕ} {free₀ : Free} {alphabet ranks roots no
 
   pub record Scanning (left low : ℕ) (form space : List ℕ) (free : Free) (stack : List ℕ) : Type 0 where
     pub upto : left ≤ length nodes
-    pub long : length stack ≡ 128
+    pub long : length stack ≡ mostNodes
     pub stood : StoodRow (after left) form space free (drop low stack)
-    pub depth : size (after left .made) + low ≡ 128
+    pub depth : size (after left .made) + low ≡ mostNodes
     pub whole : wholes rankOf (drop left nodes) ≡ exactly (size (after left .made))
     pub shallow : size (after left .made) + left ≤ length nodes
     pub grown : Grown (16 * (length nodes - left)) (4 * (length nodes - left)) form₀ space₀ free₀ form space free
@@ -103,7 +104,7 @@ module _ {form₀ space₀ : List ℕ} {free₀ : Free} {alphabet ranks roots no
       drop-all [] = refl
       drop-all (x ∷ xs) = drop-all xs
 
-  pub scan-none : (left low : ℕ) (stack : List ℕ) → left ≡ length nodes → low ≡ 128 → length stack ≡ 128 → Scanning left low form₀ space₀ free₀ stack
+  pub scan-none : (left low : ℕ) (stack : List ℕ) → left ≡ length nodes → low ≡ mostNodes → length stack ≡ mostNodes → Scanning left low form₀ space₀ free₀ stack
   unfolding scan wholes
   scan-none left low stack e z long =
       let n = nothing-left left e in
@@ -157,7 +158,7 @@ module _ {form₀ space₀ : List ℕ} {free₀ : Free} {alphabet ranks roots no
         let p = g .proper .proper (g .number) (g .inside) .allowed in
         all-at (λ n. allowed alphabet (g .number) (ruleRank (g .rules) (g .number)) (name n)) nodes (rw (g .nodes-of) p) left (omega (arith, s .upto))
 
-    few-rules : g .number < 64
+    few-rules : g .number < mostRules
     few-rules = omega (arith, g .inside, g .proper .few)
 
     pub node-ranked : HasRank (length alphabet) (name f)
@@ -287,7 +288,7 @@ module _ {form₀ space₀ : List ℕ} {free₀ : Free} {alphabet ranks roots no
     unfolding scan
     turned = rw split
 
-    pub low-enough : (1 ≤ low) × (low + k ≤ 128)
+    pub low-enough : (1 ≤ low) × (low + k ≤ mostNodes)
     low-enough = (omega (arith, s .depth, s .shallow, g .few), omega (arith, s .depth, enough))
 
     -- the stack after the node
@@ -329,7 +330,7 @@ module _ {form₀ space₀ : List ℕ} {free₀ : Free} {alphabet ranks roots no
 
   -- all nodes
   pub scan-all : {left low : ℕ} {form space : List ℕ} {free : Free} {stack : List ℕ} → left ≡ 0 → Scanning left low form space free stack
-      → (low < 128) × Grown (16 * length nodes) (4 * length nodes) form₀ space₀ free₀ form space free × Stood (sideMade g) form space (record { free = free; cell = getD stack low 0 })
+      → (low < mostNodes) × Grown (16 * length nodes) (4 * length nodes) form₀ space₀ free₀ form space free × Stood (sideMade g) form space (record { free = free; cell = getD stack low 0 })
   scan-all {left} {low} {form} {space} {free} {stack} z s′ =
       let s : Scanning 0 low form space free stack = subst (λ (n : ℕ). Scanning n low form space free stack) z s′ in
       let w : exactly (size (after 0 .made)) ≡ exactly 1 = sym (s .whole) ∙ rw (g .nodes-of) (g .proper .proper (g .number) (g .inside) .whole) in
@@ -338,5 +339,5 @@ module _ {form₀ space₀ : List ℕ} {free₀ : Free} {alphabet ranks roots no
       let at : getD (drop low stack) 0 0 ≡ getD stack low 0 = getD-drop low stack 0 0 ∙ ap (λ n. getD stack n 0) (omega arith) in
       (omega (arith, s .depth), grown-less (omega arith) (omega arith) (s .grown), record { held = s .stood .held; counted = s .stood .counted; lower = rw at at (a .0); stands = rw at at (a .1) })
 
-pub whole-part : (stack : List ℕ) (low : ℕ) → length stack ≡ 128 → take (128 - low) (drop low stack) ≡ drop low stack
-whole-part stack low e = take-all (128 - low) (drop low stack) (omega (arith, length-drop low stack))
+pub whole-part : (stack : List ℕ) (low : ℕ) → length stack ≡ mostNodes → take (mostNodes - low) (drop low stack) ≡ drop low stack
+whole-part stack low e = take-all (mostNodes - low) (drop low stack) (omega (arith, length-drop low stack))

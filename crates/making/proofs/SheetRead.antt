@@ -8,7 +8,7 @@ use lib.ListN.{length, take, drop, length-drop}
 use lib.Seq.{length-take-le}
 use Rattle.terms.specs.FormBytes.{ruleOffset}
 use Rattle.terms.specs.Sheet.{bodyOffset, body, alphabetOf, rulesBody, rulesOf, nodesOf}
-use Rattle.terms.specs.Check.{refusal}
+use Rattle.terms.specs.Check.{mostNodes, refusal}
 use Rattle.terms.specs.Calls.{makingRefusal}
 use Rattle.terms.proofs.Sheet.Bodies.{Joined, joined}
 use Rattle.terms.proofs.Sheet.Grammar.{rules-passed}
@@ -54,7 +54,7 @@ module _ {s : List ℕ} {l : Layout} (r : SheetRead s l) where
   where-bodies : Joined s
   where-bodies = joined s (passed .joined)
 
-  pub few-nodes : l .nodes ≤ 128
+  pub few-nodes : l .nodes ≤ mostNodes
   unfolding nodesOf rulesOf
   few-nodes = omega (arith, r .nodes, rules-passed (alphabetOf s) (body s 1) (passed .rules) .few-nodes)
 

@@ -3,9 +3,18 @@ use mathlib.Core.Path.{_≡_}
 use mathlib.Core.List.{List, [], _∷_}
 use Prim.Native.Nat.{ℕ, _+_, _*_, _<_}
 use lib.ListN.{getD}
+use Rattle.terms.specs.Check.{mostNodes}
 use Rattle.terms.proofs.Model.Skeleton.{Skeleton, Skeletons, param, shut, under, branch, nil, cons}
 use Rattle.terms.proofs.Making.Skeleton.{size}
 use Rattle.making.specs.Bytes.{Kept}
+
+-- how many cells there are: one for each parameter, and four for each right-side node
+abbrev pub mostCells : ℕ
+mostCells = 4 + 4 * mostNodes
+
+-- how many numbers the cells take, seven for each
+abbrev pub spaceLength : ℕ
+spaceLength = 7 * mostCells
 
 -- field k of cell c: kind, number, how many children, four children
 abbrev pub field : List ℕ → ℕ → ℕ → ℕ

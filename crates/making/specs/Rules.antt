@@ -6,18 +6,19 @@ use lib.ListN.{length, getD}
 use Rattle.terms.specs.Grammar.{nodeCount, Proper}
 use Rattle.terms.specs.Grammar.{Rule as Production}
 use Rattle.terms.specs.Sheet.{rulesBody}
+use Rattle.terms.specs.Check.{mostNodes}
 use Rattle.terms.specs.FormBytes.{ruleOffset}
 use Rattle.terms.proofs.Model.Skeleton.{param, shut}
 use Rattle.terms.proofs.Model.Make.{Form, skeletonOf}
 use Rattle.terms.proofs.Model.Scan.{scanned}
 use Rattle.terms.proofs.Sheet.Passed.{AlphabetPassed}
 use Rattle.making.specs.Bytes.{Holds}
-use Rattle.making.specs.Cells.{Stands}
+use Rattle.making.specs.Cells.{spaceLength, Stands}
 use Rattle.making.specs.declared.rules.Whole.{Whole}
 
 -- the first cells stand for the parameters
 pub record Parameters (space : List ℕ) : Type 0 where
-  pub all : length space ≡ 3612
+  pub all : length space ≡ spaceLength
   pub parameters : (j : ℕ) → j < 4 → Stands space j (param j)
 
 -- the rules of a body are a grammar over the alphabet, and there is room for its form
@@ -25,7 +26,7 @@ pub record Grammar (form terminals body : List ℕ) (rules : ℕ) : Type 0 where
   pub alphabet : AlphabetPassed terminals
   pub proper : Proper terminals (rulesBody body .rules)
   pub count : rules ≡ length (rulesBody body .rules)
-  pub few : nodeCount (rulesBody body .rules) ≤ 128
+  pub few : nodeCount (rulesBody body .rules) ≤ mostNodes
   pub room : ruleOffset (16 * nodeCount (rulesBody body .rules)) ≤ length form
 
 -- the form that the model makes of the rules

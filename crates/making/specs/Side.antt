@@ -6,6 +6,7 @@ use lib.ListN.{length, getD}
 use Rattle.terms.specs.Grammar.{Name, terminal, nonterminal, parameter, nothing, ruleAt, terminalRank, ruleRank, rankIn, Proper}
 use Rattle.terms.specs.Grammar.{Rule as Production}
 use Rattle.terms.specs.Form.{Rule}
+use Rattle.terms.specs.Check.{mostRules, mostNodes}
 use Rattle.terms.proofs.Model.Skeleton.{Skeleton, param, nth}
 use Rattle.terms.proofs.Model.Make as model
 use Rattle.terms.proofs.Model.Scan.{scan}
@@ -21,7 +22,7 @@ use Rattle.making.specs.declared.state.Made.{Made}
 -- a node of a rank over cells can be made, where roots has the cells of the lower rules
 abbrev pub NodeReady : List ℕ → List ℕ → Free → List ℕ → ℕ → List ℕ → Name → Type 0
 NodeReady form space free roots rank xs (terminal f) = Room 2 1 form space free × Children rank (free .cell) xs
-NodeReady form space free roots rank xs (nonterminal r) = (r < 64) × Instance form space free xs (getD roots r 0)
+NodeReady form space free roots rank xs (nonterminal r) = (r < mostRules) × Instance form space free xs (getD roots r 0)
 NodeReady form space free roots rank xs (parameter j) = j < 4
 NodeReady form space free roots rank xs nothing = ⊥
 
@@ -40,7 +41,7 @@ NodeMade form space free roots rank xs nothing form′ space′ r = Unit {0}
 
 -- what is known of the rules below a number: their ranks, and the cells that stand for their skeletons; and that the first cells are the parameters
 pub record Known (space : List ℕ) (free : Free) (ranks roots : List ℕ) (rules : List Production) (number : ℕ) (skeleton : ℕ → Skeleton) : Type 0 where
-  pub rooted : length roots ≡ 64
+  pub rooted : length roots ≡ mostRules
   pub rank : (r : ℕ) → r < number → getD ranks r 0 ≡ ruleRank rules r
   pub lower : (r : ℕ) → r < number → getD roots r 0 < free .cell
   pub stands : (r : ℕ) → r < number → Stands space (getD roots r 0) (skeleton r)
@@ -59,7 +60,7 @@ pub record RightSide (form space : List ℕ) (free : Free) (alphabet ranks roots
   pub low : (f : ℕ) → terminalRank alphabet f ≤ 4
   pub inside : number < length rules
   pub nodes-of : nodes ≡ ruleAt rules number .nodes
-  pub few : length nodes ≤ 128
+  pub few : length nodes ≤ mostNodes
   pub known : Known space free ranks roots rules number skeleton
   pub held : Holds form made
   pub counted : free .rule .0 ≡ length made

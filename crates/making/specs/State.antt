@@ -10,7 +10,7 @@ use Rattle.terms.proofs.Model.Make.{put}
 use Rattle.terms.proofs.Model.Make as model
 use Rattle.forms.specs.declared.rule.FormRule.{FormRule}
 use Rattle.making.specs.Bytes.{Holds, RuleWritten}
-use Rattle.making.specs.Cells.{Stands, CellWritten}
+use Rattle.making.specs.Cells.{mostCells, spaceLength, Stands, CellWritten}
 use Rattle.making.specs.declared.state.Free.{Free}
 use Rattle.making.specs.declared.state.Made.{Made}
 
@@ -31,8 +31,8 @@ pub record CellAdded (fields : List ℕ) (free : Free) (cells : List ℕ) (r : M
 pub record Room (rules cells : ℕ) (form space : List ℕ) (free : Free) : Type 0 where
   pub fits : ruleOffset (free .rule .0 + rules) ≤ length form
   pub numbers : free .rule .0 + rules < 65536
-  pub all : length space ≡ 3612
-  pub left : free .cell + cells ≤ 516
+  pub all : length space ≡ spaceLength
+  pub left : free .cell + cells ≤ mostCells
 
 -- at most so many rules and cells are added, and what was there is kept
 pub record Grown (rules cells : ℕ) (form space : List ℕ) (free : Free) (form′ space′ : List ℕ) (free′ : Free) : Type 0 where

@@ -4,7 +4,7 @@ ghost use mathlib.Core.Path.{_≡_};
 ghost use Prim.Native.Nat.{_+_, _*_, _<_, _≤_};
 ghost use lib.ListN.{length};
 ghost use Rattle.making.specs.Bytes.{pasted};
-ghost use Rattle.making.specs.Cells.{field, CellWritten};
+ghost use Rattle.making.specs.Cells.{mostCells, spaceLength, field, CellWritten};
 
 // The fields of a cell: its kind, its number, how many children it has, and four children.
 pub(crate) const KIND: usize = 0;
@@ -34,7 +34,7 @@ pub(crate) const SPACE: usize = FIELDS * MOST_CELLS;
 
 // A field of a cell.
 pub(crate) fn field(cells: &[u16; SPACE], cell: u16, k: usize) -> u16
-    requires { ⌜ (length (now cells) ≡ 3612) × (cell < 516) × (k < 7) ⌝ }
+    requires { ⌜ (length (now cells) ≡ spaceLength) × (cell < mostCells) × (k < 7) ⌝ }
     ensures { λ r. ⌜ r ≡ field (now (cells .entry)) cell k ⌝ }
 {
     let at = FIELDS * (cell as usize) + k;
@@ -43,7 +43,7 @@ pub(crate) fn field(cells: &[u16; SPACE], cell: u16, k: usize) -> u16
 
 // The fields of a cell into its place.
 fn copy_fields(fields: &[u16; FIELDS], cells: &mut [u16; SPACE], at: usize)
-    requires { ⌜ (length (now fields) ≡ 7) × (length (now cells) ≡ 3612) × (at + 7 ≤ 3612) ⌝ }
+    requires { ⌜ (length (now fields) ≡ 7) × (length (now cells) ≡ spaceLength) × (at + 7 ≤ spaceLength) ⌝ }
     ensures { λ _. ⌜ now (cells .exit) ≡ pasted at (now (fields .entry)) (now (cells .entry)) ⌝ }
 {
     let mut i = 0;
@@ -55,7 +55,7 @@ fn copy_fields(fields: &[u16; FIELDS], cells: &mut [u16; SPACE], at: usize)
 
 // Writes a cell.
 pub(crate) fn write_cell(cells: &mut [u16; SPACE], cell: u16, fields: &[u16; FIELDS])
-    requires { ⌜ (length (now cells) ≡ 3612) × (length (now fields) ≡ 7) × (cell < 516) ⌝ }
+    requires { ⌜ (length (now cells) ≡ spaceLength) × (length (now fields) ≡ 7) × (cell < mostCells) ⌝ }
     ensures { λ _. ⌜ CellWritten cell (now (fields .entry)) (now (cells .exit)) (now (cells .entry)) ⌝ }
 {
     copy_fields(fields, cells, FIELDS * (cell as usize));

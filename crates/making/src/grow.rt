@@ -16,6 +16,7 @@ use terms::Terminal;
 ghost use mathlib.Core.Path.{_≡_};
 ghost use Prim.Native.Nat.{_+_, _<_};
 ghost use lib.ListN.{length, getD};
+ghost use Rattle.making.specs.Cells.{mostCells, spaceLength};
 ghost use Rattle.making.specs.Grow.{withChild, slotAt, fieldsOver, Children, Opens, GrowsWhere, Grows, BranchAdded};
 ghost use Rattle.making.specs.State.{Room};
 
@@ -42,7 +43,7 @@ fn with_child(shut: bool, place: u8, behind: Open) -> Open
 
 // Which of the first children are open.
 fn open_among(cells: &[u16; SPACE], rank: u8, children: &[u16]) -> Open
-    requires { ⌜ (length (now cells) ≡ 3612) × Children rank 516 (now children) ⌝ }
+    requires { ⌜ (length (now cells) ≡ spaceLength) × Children rank mostCells (now children) ⌝ }
     ensures { λ r. ⌜ Opens (now (cells .entry)) rank (now (children .entry)) r ⌝ }
 {
     let mut open = Open::Nowhere;
@@ -57,7 +58,7 @@ fn open_among(cells: &[u16; SPACE], rank: u8, children: &[u16]) -> Open
 
 // Slot j of a terminal's rule: the number of the child's rule, or FFFF at the hole and past the children.
 fn slot(cells: &[u16; SPACE], rank: u8, children: &[u16], hole: u8, j: u8) -> Rule
-    requires { ⌜ (length (now cells) ≡ 3612) × Children rank 516 (now children) × (j < 4) ⌝ }
+    requires { ⌜ (length (now cells) ≡ spaceLength) × Children rank mostCells (now children) × (j < 4) ⌝ }
     ensures { λ r. ⌜ r .0 ≡ slotAt (now (cells .entry)) rank (now (children .entry)) hole j ⌝ }
 {
     if rank <= j {
@@ -78,7 +79,7 @@ fn rule_over(
     rank: u8,
     children: &[u16],
 ) -> FormRule
-    requires { ⌜ (length (now cells) ≡ 3612) × Children rank 516 (now children) ⌝ }
+    requires { ⌜ (length (now cells) ≡ spaceLength) × Children rank mostCells (now children) ⌝ }
     ensures { λ r. ⌜ r ≡ fieldsOver (now (cells .entry)) kind (terminal .0) hole rank (now (children .entry)) ⌝ }
 {
     FormRule {
@@ -148,7 +149,7 @@ fn branch(
     rank: u8,
     children: &[u16],
 ) -> Made
-    requires { ⌜ (length (now cells) ≡ 3612) × (free .cell < 516) ⌝ }
+    requires { ⌜ (length (now cells) ≡ spaceLength) × (free .cell < mostCells) ⌝ }
     ensures { λ r. ⌜ BranchAdded (now (cells .entry)) free (terminal .0) rank (now (children .entry)) (now (cells .exit)) r ⌝ }
 {
     let fields = [

@@ -7,6 +7,9 @@ use crate::side::right_side;
 use crate::state::Free;
 use sheets::limits::MOST_RULES;
 use terms::Rule;
+ghost use mathlib.Core.Path.{_≡_};
+ghost use lib.ListN.{replicate};
+ghost use Rattle.making.specs.Cells.{spaceLength};
 ghost use Rattle.making.specs.Rules.{Parameters, Grammar, RulesMade};
 
 // How many rules a form has, as the number of the rule that would be next, and its start.
@@ -15,15 +18,14 @@ pub(crate) struct Whole {
     pub start: Rule,
 }
 
-// The cells of the parameters, which are the first ones.
-fn parameters() -> [u16; SPACE]
-    ensures { λ r. ⌜ Parameters r ⌝ }
+// The cells of the parameters, which are the first ones, into cells that are all 0.
+fn write_parameters(cells: &mut [u16; SPACE])
+    requires { ⌜ now cells ≡ replicate spaceLength 0 ⌝ }
+    ensures { λ _. ⌜ Parameters (now (cells .exit)) ⌝ }
 {
-    let mut cells = [0u16; SPACE];
     cells[FIELDS + NUMBER] = 1;
     cells[2 * FIELDS + NUMBER] = 2;
     cells[3 * FIELDS + NUMBER] = 3;
-    cells
 }
 
 // The rules of the form that is made of the rules of a body.
@@ -31,7 +33,8 @@ pub(crate) fn make_rules(form: &mut [u8], alphabet: &[u8], body: &[u8], rules: u
     requires { ⌜ Grammar (now form) (now alphabet) (now body) rules ⌝ }
     ensures { λ r. ⌜ RulesMade (now (form .entry)) (now (alphabet .entry)) (now (body .entry)) (now (form .exit)) r ⌝ }
 {
-    let mut cells = parameters();
+    let mut cells = [0u16; SPACE];
+    write_parameters(&mut cells);
     let mut free = Free {
         rule: Rule(0),
         cell: 4,

@@ -11,6 +11,7 @@ use sheets::name::name_of;
 use sheets::name::name_rank;
 ghost use mathlib.Core.Path.{_≡_};
 ghost use lib.ListN.{length};
+ghost use Rattle.terms.specs.Check.{mostRules};
 ghost use Rattle.sheets.specs.Reading.{naming};
 ghost use Rattle.making.specs.Side.{NodeReady, NodeMade, RightSide, SideMade};
 
@@ -24,7 +25,7 @@ fn node(
     rank: u8,
     children: &[u16],
 ) -> Made
-    requires { ⌜ (length (now roots) ≡ 64) × NodeReady (now form) (now cells) free (now roots) rank (now children) (naming name) ⌝ }
+    requires { ⌜ (length (now roots) ≡ mostRules) × NodeReady (now form) (now cells) free (now roots) rank (now children) (naming name) ⌝ }
     ensures { λ r. ⌜ NodeMade (now (form .entry)) (now (cells .entry)) free (now (roots .entry)) rank (now (children .entry)) (naming name) (now (form .exit)) (now (cells .exit)) r ⌝ }
 {
     match name {

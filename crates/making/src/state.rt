@@ -9,6 +9,7 @@ ghost use mathlib.Core.Path.{_≡_};
 ghost use Prim.Native.Nat.{_+_, _<_, _≤_};
 ghost use lib.ListN.{length};
 ghost use Rattle.terms.specs.FormBytes.{ruleOffset};
+ghost use Rattle.making.specs.Cells.{mostCells, spaceLength};
 ghost use Rattle.making.specs.State.{RuleAdded, CellAdded};
 
 // The numbers of the next rule and the next cell.
@@ -37,7 +38,7 @@ pub(crate) fn add_rule(form: &mut [u8], free: Free, rule: FormRule) -> Free
 
 // Adds a cell.
 pub(crate) fn add_cell(cells: &mut [u16; SPACE], free: Free, fields: &[u16; FIELDS]) -> Made
-    requires { ⌜ (length (now cells) ≡ 3612) × (length (now fields) ≡ 7) × (free .cell < 516) ⌝ }
+    requires { ⌜ (length (now cells) ≡ spaceLength) × (length (now fields) ≡ 7) × (free .cell < mostCells) ⌝ }
     ensures { λ r. ⌜ CellAdded (now (fields .entry)) free (now (cells .entry)) r (now (cells .exit)) ⌝ }
 {
     write_cell(cells, free.cell, fields);

@@ -6,11 +6,12 @@ use lib.ListN.{length, length-set}
 use lib.Seq.{paste, paste-zero}
 use denote.Ref.{now}
 use Rattle.sheets.proofs.write.Pieces.{copied-more, copied-all}
+use Rattle.making.specs.Cells.{spaceLength}
 use Rattle.making.proofs.cells.copy_fields.Statement.{statement}
 use Rattle.making.proofs.cells.copy_fields.Tie as tie
 
 abbrev Inv-loop : tie.InvT-loop
-Inv-loop fields cells₀ at i₀ cells i = (cells ≡ paste cells₀ at fields i) × (i ≤ 7) × (length cells ≡ 3612)
+Inv-loop fields cells₀ at i₀ cells i = (cells ≡ paste cells₀ at fields i) × (i ≤ 7) × (length cells ≡ spaceLength)
 
 abbrev μ-loop : tie.MeasureT-loop
 μ-loop fields cells₀ at i₀ cells i = 7 - i

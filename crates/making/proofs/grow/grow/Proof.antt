@@ -1,5 +1,6 @@
 -- `making::grow::grow` meets its contract: which children are open decides, as in the model.
 use native.Mathlib.Omega.{arith}
+use Rattle.making.specs.Cells.{mostCells}
 use Rattle.making.specs.declared.grow.Open.the-variants.{Nowhere, At, Several}
 use Rattle.making.proofs.Terminals.{branches, grows, children-below}
 use borrow.Author.Needs.{needs}
@@ -9,7 +10,7 @@ use Rattle.making.proofs.grow.grow.Tie as tie
 open-among-requires : tie.Need-open-among-requires
 open-among-requires c κs =
     let start = c .before .before .before in
-    (start .pre .0 .all, children-below 516 (omega (arith, start .pre .0 .left)) (start .pre .1))
+    (start .pre .0 .all, children-below mostCells (omega (arith, start .pre .0 .left)) (start .pre .1))
 
 enum-told : tie.Need-enum-told
 enum-told c = search needs

@@ -1,5 +1,6 @@
 -- `making::grow::pierce` meets its contract: the rule is the model's, and it is put over the open child.
 use native.Mathlib.Omega.{arith}
+use Rattle.making.specs.Cells.{mostCells}
 use Rattle.making.proofs.Terminals.{pierces, children-below}
 use borrow.Author.Needs.{needs}
 use Rattle.making.proofs.grow.pierce.Statement.{statement}
@@ -17,7 +18,7 @@ add-rule-over c = search needs
 rule-over-requires : tie.Need-rule-over-requires
 rule-over-requires c κs =
     let start = c .before .before .before .before in
-    (start .pre .0 .all, children-below 516 (omega (arith, start .pre .0 .left)) (start .pre .1))
+    (start .pre .0 .all, children-below mostCells (omega (arith, start .pre .0 .left)) (start .pre .1))
 
 add-rule-requires : tie.Need-add-rule-requires
 add-rule-requires c κs = search needs

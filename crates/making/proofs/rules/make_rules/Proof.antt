@@ -24,11 +24,11 @@ Inv-loop form₀ alphabet body rules cells₀ free₀ ranks₀ roots₀ at₀ ru
 abbrev μ-loop : tie.MeasureT-loop
 μ-loop form₀ alphabet body rules cells₀ free₀ ranks₀ roots₀ at₀ rule₀ form cells free ranks roots at rule = rules - rule .0
 
-parameters-requires : tie.Need-parameters-requires Inv-loop μ-loop
-parameters-requires c κs = tt
+write-parameters-requires : tie.Need-write-parameters-requires Inv-loop μ-loop
+write-parameters-requires c κs = refl
 
 loop-holds : tie.Need-loop-holds Inv-loop μ-loop
-loop-holds c = λ g. none-made g (c .parameters .ensures) refl refl refl refl
+loop-holds c = λ g. none-made g (c .write-parameters .ensures) refl refl refl refl
 
 cast-if1 : tie.Need-cast-if1 Inv-loop μ-loop
 cast-if1 c = omega arith
@@ -37,7 +37,7 @@ add-start : tie.Need-add-start Inv-loop μ-loop
 add-start c =
     let test = c in
     let loop = test .before .before in
-    let start = loop .before .before .before .before .before in
+    let start = loop .before .before .before .before .before .before in
     let g = start .pre in
     let s = loop .loop .inv g in
     let there = whole g s (test .if1 .taken) in
@@ -47,7 +47,7 @@ add-end : tie.Need-add-end Inv-loop μ-loop
 add-end c =
     let test = c in
     let loop = test .before .before in
-    let start = loop .before .before .before .before .before in
+    let start = loop .before .before .before .before .before .before in
     let g = start .pre in
     let s = loop .loop .inv g in
     let there = whole g s (test .if1 .taken) in
@@ -57,7 +57,7 @@ shared-slice-read-end : tie.Need-shared-slice-read-end Inv-loop μ-loop
 shared-slice-read-end c =
     let test = c .before in
     let loop = test .before .before in
-    let start = loop .before .before .before .before .before in
+    let start = loop .before .before .before .before .before .before in
     let g = start .pre in
     let s = loop .loop .inv g in
     let there = whole g s (test .if1 .taken) in
@@ -67,7 +67,7 @@ cast-end : tie.Need-cast-end Inv-loop μ-loop
 cast-end c =
     let test = c .before in
     let loop = test .before .before in
-    let start = loop .before .before .before .before .before in
+    let start = loop .before .before .before .before .before .before in
     let g = start .pre in
     let s = loop .loop .inv g in
     let there = whole g s (test .if1 .taken) in
@@ -77,7 +77,7 @@ add-end-2 : tie.Need-add-end-2 Inv-loop μ-loop
 add-end-2 c =
     let test = c .before in
     let loop = test .before .before in
-    let start = loop .before .before .before .before .before in
+    let start = loop .before .before .before .before .before .before in
     let g = start .pre in
     let s = loop .loop .inv g in
     let there = whole g s (test .if1 .taken) in
@@ -87,7 +87,7 @@ sub-right-side : tie.Need-sub-right-side Inv-loop μ-loop
 sub-right-side c =
     let test = c .before .before .before .before .before in
     let loop = test .before .before in
-    let start = loop .before .before .before .before .before in
+    let start = loop .before .before .before .before .before .before in
     let g = start .pre in
     let s = loop .loop .inv g in
     let there = whole g s (test .if1 .taken) in
@@ -97,7 +97,7 @@ part-right-side-start : tie.Need-part-right-side-start Inv-loop μ-loop
 part-right-side-start c =
     let test = c .before .before .before .before .before in
     let loop = test .before .before in
-    let start = loop .before .before .before .before .before in
+    let start = loop .before .before .before .before .before .before in
     let g = start .pre in
     let s = loop .loop .inv g in
     let there = whole g s (test .if1 .taken) in
@@ -107,7 +107,7 @@ part-right-side-end : tie.Need-part-right-side-end Inv-loop μ-loop
 part-right-side-end c =
     let test = c .before .before .before .before .before in
     let loop = test .before .before in
-    let start = loop .before .before .before .before .before in
+    let start = loop .before .before .before .before .before .before in
     let g = start .pre in
     let s = loop .loop .inv g in
     let there = whole g s (test .if1 .taken) in
@@ -117,7 +117,7 @@ right-side-requires : tie.Need-right-side-requires Inv-loop μ-loop
 right-side-requires c κs =
     let test = c .before .before .before .before .before .before in
     let loop = test .before .before in
-    let start = loop .before .before .before .before .before in
+    let start = loop .before .before .before .before .before .before in
     let g = start .pre in
     let s = loop .loop .inv g in
     let there = whole g s (test .if1 .taken) in
@@ -127,7 +127,7 @@ shared-slice-read-ranks : tie.Need-shared-slice-read-ranks Inv-loop μ-loop
 shared-slice-read-ranks c =
     let test = c .before .before .before .before .before .before .before .before .before .before in
     let loop = test .before .before in
-    let start = loop .before .before .before .before .before in
+    let start = loop .before .before .before .before .before .before in
     let g = start .pre in
     let s = loop .loop .inv g in
     let there = whole g s (test .if1 .taken) in
@@ -137,7 +137,7 @@ cast-ranks : tie.Need-cast-ranks Inv-loop μ-loop
 cast-ranks c =
     let test = c .before .before .before .before .before .before .before .before .before .before .before in
     let loop = test .before .before in
-    let start = loop .before .before .before .before .before in
+    let start = loop .before .before .before .before .before .before in
     let g = start .pre in
     let s = loop .loop .inv g in
     let there = whole g s (test .if1 .taken) in
@@ -147,7 +147,7 @@ array-write-ranks : tie.Need-array-write-ranks Inv-loop μ-loop
 array-write-ranks c =
     let test = c .before .before .before .before .before .before .before .before .before .before .before in
     let loop = test .before .before in
-    let start = loop .before .before .before .before .before in
+    let start = loop .before .before .before .before .before .before in
     let g = start .pre in
     let s = loop .loop .inv g in
     let there = whole g s (test .if1 .taken) in
@@ -157,7 +157,7 @@ cast-roots : tie.Need-cast-roots Inv-loop μ-loop
 cast-roots c =
     let test = c .before .before .before .before .before .before .before .before .before .before .before .before in
     let loop = test .before .before in
-    let start = loop .before .before .before .before .before in
+    let start = loop .before .before .before .before .before .before in
     let g = start .pre in
     let s = loop .loop .inv g in
     let there = whole g s (test .if1 .taken) in
@@ -167,7 +167,7 @@ mul-roots : tie.Need-mul-roots Inv-loop μ-loop
 mul-roots c =
     let test = c .before .before .before .before .before .before .before .before .before .before .before .before in
     let loop = test .before .before in
-    let start = loop .before .before .before .before .before in
+    let start = loop .before .before .before .before .before .before in
     let g = start .pre in
     let s = loop .loop .inv g in
     let there = whole g s (test .if1 .taken) in
@@ -177,17 +177,17 @@ array-write-roots : tie.Need-array-write-roots Inv-loop μ-loop
 array-write-roots c =
     let test = c .before .before .before .before .before .before .before .before .before .before .before .before in
     let loop = test .before .before in
-    let start = loop .before .before .before .before .before in
+    let start = loop .before .before .before .before .before .before in
     let g = start .pre in
     let s = loop .loop .inv g in
     let there = whole g s (test .if1 .taken) in
     omega (arith, there, few-rules g, test .if1 .taken, s .ranked, s .known .rooted)
 
-add-t36 : tie.Need-add-t36 Inv-loop μ-loop
-add-t36 c =
+add-t37 : tie.Need-add-t37 Inv-loop μ-loop
+add-t37 c =
     let test = c .before .before .before .before .before .before .before .before .before .before .before .before .before .before in
     let loop = test .before .before in
-    let start = loop .before .before .before .before .before in
+    let start = loop .before .before .before .before .before .before in
     let g = start .pre in
     let s = loop .loop .inv g in
     let there = whole g s (test .if1 .taken) in
@@ -201,14 +201,14 @@ loop-again c = λ g.
     (let made = c .before .before .before .before .before .before .before in
     let test = made .before .before .before .before .before .before .before in
     let loop = test .before .before in
-    let start = loop .before .before .before .before .before in
+    let start = loop .before .before .before .before .before .before in
     rule-made g (loop .loop .inv g) (test .if1 .taken) (between (start .args .body .now) (loop .loop .at)) (made .right-side .ensures) _ refl _ refl)
 
 sub-field : tie.Need-sub-field Inv-loop μ-loop
 sub-field c =
     let test = c .before in
     let loop = test .before .before in
-    let start = loop .before .before .before .before .before in
+    let start = loop .before .before .before .before .before .before in
     let g = start .pre in
     let s = loop .loop .inv g in
     omega (arith, g .count, g .proper .some, few-rules g, s .known .rooted)
@@ -217,7 +217,7 @@ mul-field : tie.Need-mul-field Inv-loop μ-loop
 mul-field c =
     let test = c .before in
     let loop = test .before .before in
-    let start = loop .before .before .before .before .before in
+    let start = loop .before .before .before .before .before .before in
     let g = start .pre in
     let s = loop .loop .inv g in
     omega (arith, g .count, g .proper .some, few-rules g, s .known .rooted)
@@ -226,7 +226,7 @@ array-read-field : tie.Need-array-read-field Inv-loop μ-loop
 array-read-field c =
     let test = c .before in
     let loop = test .before .before in
-    let start = loop .before .before .before .before .before in
+    let start = loop .before .before .before .before .before .before in
     let g = start .pre in
     let s = loop .loop .inv g in
     omega (arith, g .count, g .proper .some, few-rules g, s .known .rooted)
@@ -235,7 +235,7 @@ field-requires : tie.Need-field-requires Inv-loop μ-loop
 field-requires c κs =
     let test = c .before in
     let loop = test .before .before in
-    let start = loop .before .before .before .before .before in
+    let start = loop .before .before .before .before .before .before in
     let g = start .pre in
     let s = loop .loop .inv g in
     (s .all, omega (arith, start-lower g s (test .if1 .left) _ refl, cells-fit g s (test .if1 .left)), omega arith)
@@ -244,7 +244,7 @@ same-length : tie.Need-same-length Inv-loop μ-loop
 same-length c =
     let test = c .before .before .before in
     let loop = test .before .before in
-    let start = loop .before .before .before .before .before in
+    let start = loop .before .before .before .before .before .before in
     let g = start .pre in
     let s = loop .loop .inv g in
     s .long
@@ -253,7 +253,7 @@ returns : tie.Need-returns Inv-loop μ-loop
 returns c =
     let test = c .before .before .before in
     let loop = test .before .before in
-    let start = loop .before .before .before .before .before in
+    let start = loop .before .before .before .before .before .before in
     let g = start .pre in
     let s = loop .loop .inv g in
     finished g s (test .if1 .left) refl (c .before .field .ensures)
@@ -264,7 +264,7 @@ make-rules-spec =
     (tie.spec
     Inv-loop
     μ-loop
-    parameters-requires
+    write-parameters-requires
     loop-holds
     cast-if1
     add-start
@@ -282,7 +282,7 @@ make-rules-spec =
     cast-roots
     mul-roots
     array-write-roots
-    add-t36
+    add-t37
     loop-less
     loop-again
     sub-field
