@@ -1,0 +1,124 @@
+-- Demand 3 on the definitions: it holds of any form of the sheet, and of the form that is made.
+use mathlib.Core.Path.{_≡_, sym, ap, _∙_}
+use mathlib.Core.List.{List}
+use Prim.Native.Nat.{ℕ, _*_, _≤_, _<_}
+use native.Mathlib.Omega.{arith}
+use borrow.Author.Tests.{le-ltb}
+use lib.Dec.{T, ltb}
+use lib.ListN.{length}
+use Rattle.terms.specs.Test.{all}
+use Rattle.terms.specs.Tree.{Tree, preorder, wholes}
+use Rattle.terms.specs.Grammar.{terminalRank}
+use Rattle.terms.specs.Automaton.{mask}
+use Rattle.terms.specs.Form.{Rule, closed, valueAt}
+use Rattle.terms.specs.Sheet.{body, alphabetOf, automatonOf, rulesOf, nodesOf, transitionsOf, sheetTree}
+use Rattle.terms.specs.Check.{isOne, isTree, treeRefusal, refusal}
+use Rattle.terms.specs.FormBytes.{ruleCount, startOf, ruleOffset, formRules, formTree}
+use Rattle.terms.specs.Count.{sizeOf}
+use Rattle.terms.specs.Calls.{rulesAsked, makingRefusal, openingRefusal, evaluationRefusal, formMask, sizeRefusal, unfoldingRefusal, mostWalked, walkRefusal, walkMask}
+use Rattle.terms.specs.Demand.{FormOfSheet, MaskOfRuns, Demand3}
+use Rattle.terms.proofs.Test.{is-true, both}
+use Rattle.terms.proofs.Tree.Whole.{wholes-preorder, tree-of-preorder}
+use Rattle.terms.proofs.Grammar.Over.{over-known}
+use Rattle.terms.proofs.Grammar.Derivation.{derived-over, derived-ranked}
+use Rattle.terms.proofs.Form.Value.{derives-tree}
+use Rattle.terms.proofs.Form.Bytes.{FormPassed, form-passed}
+use Rattle.terms.proofs.Automaton.Table.{start-mask, start-run}
+use Rattle.terms.proofs.Model.Form.{madeForm}
+use Rattle.terms.proofs.Making.Bytes.{made-bytes}
+use Rattle.terms.proofs.Sheet.Grammar.{rules-passed}
+use Rattle.terms.proofs.Sheet.Passed.{SheetPassed, sheet-passed, alphabet-passed, sheet-proper, sheet-small}
+
+module _ (sheet : List ℕ) (passes : refusal sheet ≡ 0) where
+  abbrev alphabet : List ℕ
+  alphabet = alphabetOf sheet
+
+  abbrev automaton : List ℕ
+  automaton = automatonOf sheet
+
+  abbrev tree : Tree
+  tree = sheetTree sheet
+
+  abbrev passed : SheetPassed sheet
+  passed = sheet-passed sheet passes
+
+  -- the sheet's tree, as the bytes that a walk gets
+
+  tree-known : T (all (λ f. ltb f (length alphabet)) (preorder tree))
+  unfolding sheetTree
+  tree-known = over-known alphabet tree (derived-over alphabet (rulesOf sheet) (sheet-proper sheet passes))
+
+  tree-whole : T (isTree alphabet (preorder tree))
+  unfolding isTree sheetTree
+  tree-whole =
+      let one = wholes-preorder (terminalRank alphabet) tree (derived-ranked alphabet (rulesOf sheet) (sheet-proper sheet passes)) in
+      both (all (λ f. ltb f (length alphabet)) (preorder tree)) (isOne (wholes (terminalRank alphabet) (preorder tree))) tree-known (rw one tt)
+
+  not-refused : (most : ℕ) → sizeOf tree ≤ most → treeRefusal most alphabet (preorder tree) ≡ 0
+  unfolding treeRefusal
+  not-refused most short = rw (le-ltb most (sizeOf tree) short, is-true (isTree alphabet (preorder tree)) tree-whole)
+
+  walk-passes : sizeOf tree ≤ mostWalked → (room : ℕ) → sizeOf tree ≤ room → walkRefusal alphabet automaton (preorder tree) room ≡ 0
+  unfolding walkRefusal
+  walk-passes small room h = rw (passed .alphabet, passed .automaton, not-refused mostWalked small, le-ltb room (sizeOf tree) h)
+
+  walk-answers : walkMask alphabet automaton (preorder tree) ≡ mask (transitionsOf alphabet automaton) tree
+  unfolding walkMask sheetTree
+  walk-answers = ap (mask (transitionsOf alphabet automaton)) (tree-of-preorder (terminalRank alphabet) tree (derived-ranked alphabet (rulesOf sheet) (sheet-proper sheet passes)))
+
+  pub making-passes : (room : ℕ) → ruleOffset (rulesAsked sheet) ≤ room → makingRefusal sheet room ≡ 0
+  unfolding makingRefusal
+  making-passes room h = rw (passes, le-ltb room (ruleOffset (rulesAsked sheet)) h)
+
+  module _ (form : List ℕ) (formed : FormOfSheet sheet form) where
+    abbrev rules : List Rule
+    rules = formRules alphabet form
+
+    abbrev form-is : FormPassed alphabet form
+    form-is = form-passed alphabet form (alphabet-passed alphabet (passed .alphabet)) (formed .valid)
+
+    start-below : startOf form < length rules
+    start-below = omega (arith, form-is .start .below, form-is .count)
+
+    -- the start derives the sheet's tree
+    start-tree : valueAt rules (startOf form) ≡ closed tree
+    unfolding formTree
+    start-tree = derives-tree (form-is .valid) (startOf form) start-below (form-is .start .rank) ∙ ap closed (formed .tree)
+
+    mask-is : formMask alphabet automaton form ≡ mask (transitionsOf alphabet automaton) tree
+    unfolding formMask
+    mask-is = start-mask (transitionsOf alphabet automaton) (sheet-small sheet passes) (form-is .valid) (startOf form) start-below tree start-tree
+
+    mask-of-runs : MaskOfRuns sheet (formMask alphabet automaton form)
+    unfolding formMask
+    mask-of-runs = start-run (transitionsOf alphabet automaton) (sheet-small sheet passes) (form-is .valid) (startOf form) start-below tree start-tree
+
+    evaluation-passes : (numbers : ℕ) → ruleCount form ≤ numbers → evaluationRefusal alphabet automaton form numbers ≡ 0
+    unfolding evaluationRefusal
+    evaluation-passes numbers h = rw (passed .alphabet, passed .automaton, formed .valid, le-ltb numbers (ruleCount form) h)
+
+    unfolding-passes : (numbers room : ℕ) → 2 * ruleCount form ≤ numbers → sizeOf tree ≤ room → unfoldingRefusal alphabet form numbers room ≡ 0
+    unfolding unfoldingRefusal sizeRefusal openingRefusal
+    unfolding-passes numbers room h k =
+        rw (passed .alphabet, formed .valid, le-ltb numbers (2 * ruleCount form) h, formed .tree, le-ltb room (sizeOf tree) k)
+
+    pub form-meets : Demand3 sheet form
+    form-meets = record {
+      made = making-passes;
+      formed = formed;
+      evaluated = evaluation-passes;
+      mask = mask-of-runs;
+      unfolded = unfolding-passes;
+      written = ap preorder (formed .tree);
+      walked = walk-passes;
+      same = walk-answers ∙ sym mask-is;
+    }
+
+-- every sheet that refusals 1 to 16 let through has a form of which demand 3 holds: the one that is made
+pub demand-three : (sheet : List ℕ) → refusal sheet ≡ 0 → Demand3 sheet (madeForm (alphabetOf sheet) (rulesOf sheet))
+unfolding sheetTree nodesOf rulesOf
+demand-three sheet passes =
+    let p = sheet-passed sheet passes in
+    let rules = rules-passed (alphabetOf sheet) (body sheet 1) (p .rules) in
+    let made = made-bytes (alphabetOf sheet) (rulesOf sheet) (alphabet-passed (alphabetOf sheet) (p .alphabet)) (rules .proper) (rules .few-nodes) in
+    form-meets sheet passes (madeForm (alphabetOf sheet) (rulesOf sheet)) (record { valid = made .accepted; tree = made .tree; few = made .linear })
