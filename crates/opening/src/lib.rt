@@ -1,0 +1,83 @@
+// Opening a one-hole form, which is done once, and reading its rules by number.
+use forms::check;
+use forms::layout;
+use forms::rule;
+use forms::rule::RuleReading;
+use terms::Rule;
+ghost use mathlib.Core.Path.{_≡_};
+ghost use Rattle.terms.specs.Calls.{openingRefusal};
+ghost use Rattle.forms.specs.Reading.{ruleReading};
+ghost use Rattle.opening.specs.Opening.{openedRules, openedReading};
+
+// The refusal of a number that no rule has.
+const NO_RULE: u8 = 21;
+
+// A form that was opened: its bytes, the number of its rules, and what opening refused (0 where nothing).
+pub struct OpenForm<'a> {
+    pub form: &'a [u8],
+    pub rules: usize,
+    pub refusal: u8,
+}
+
+// What the check of a form finds: how many rules can be read, none where it is refused, and the refusal.
+struct Opening {
+    rules: usize,
+    refusal: u8,
+}
+
+// Checks a form for an alphabet and counts its rules.
+fn check_and_count(alphabet: &[u8], form: &[u8]) -> Opening
+    ensures { λ r. ⌜ (let refusal = openingRefusal (now (alphabet .entry)) (now (form .entry)) in (r .rules ≡ openedRules (now (form .entry)) refusal) × (r .refusal ≡ refusal)) ⌝ }
+{
+    let refusal = check::check_opening(alphabet, form);
+    if refusal != 0 {
+        return Opening { rules: 0, refusal };
+    }
+    Opening {
+        rules: layout::rule_count(form),
+        refusal,
+    }
+}
+
+// The rule of a number, of a form with so many rules and this refusal: 21 where the number is not below the rules or the rule does not stand whole in the bytes.
+pub fn rule_of(form: &[u8], rules: usize, refusal: u8, number: Rule) -> RuleReading
+    ensures { λ r. ⌜ r ≡ openedReading (now (form .entry)) rules refusal (number .0) ⌝ }
+{
+    if refusal != 0 {
+        return RuleReading::Refused(refusal);
+    }
+    let place = number.0 as usize;
+    if rules <= place {
+        return RuleReading::Refused(NO_RULE);
+    }
+    if form.len() < layout::HEAD + layout::RULE * place + layout::RULE {
+        return RuleReading::Refused(NO_RULE);
+    }
+    RuleReading::Read(rule::rule_at(form, number))
+}
+
+// Opens a form: refused by 3 and 4 for the alphabet, 18 for the form.
+pub fn open<'a>(alphabet: &[u8], form: &'a [u8]) -> OpenForm<'a>
+    ensures { λ r. ⌜ (let refusal = openingRefusal (now (alphabet .entry)) (now (form .entry)) in (r .form ≡ form .entry) × (r .rules ≡ openedRules (now (form .entry)) refusal) × (r .refusal ≡ refusal)) ⌝ }
+{
+    let found = check_and_count(alphabet, form);
+    OpenForm {
+        form,
+        rules: found.rules,
+        refusal: found.refusal,
+    }
+}
+
+// Reads the rule of a number of a form that was opened.
+pub fn rule<'a>(opened: OpenForm<'a>, number: Rule) -> RuleReading
+    ensures { λ r. ⌜ r ≡ openedReading (now (opened .entry .form)) (opened .entry .rules) (opened .entry .refusal) (number .0) ⌝ }
+{
+    rule_of(opened.form, opened.rules, opened.refusal, number)
+}
+
+// Opens a form and reads the rule of a number.
+pub fn read(alphabet: &[u8], form: &[u8], number: Rule) -> RuleReading
+    ensures { λ r. ⌜ r ≡ ruleReading (now (alphabet .entry)) (now (form .entry)) (number .0) ⌝ }
+{
+    rule(open(alphabet, form), number)
+}
