@@ -1,0 +1,74 @@
+-- Demand 3 follows from what the four calls answer and leave.
+use mathlib.Core.Path.{_≡_, refl, ap, subst, _∙_}
+use mathlib.Core.List.{List}
+use Prim.Native.Nat.{ℕ, _+_, _*_, _≤_}
+use native.Mathlib.Omega.{arith}
+use lib.ListN.{length, take}
+use Rattle.terms.specs.Tree.{Tree, preorder}
+use Rattle.terms.specs.Sheet.{alphabetOf, automatonOf, nodesOf, sheetTree}
+use Rattle.terms.specs.Check.{refusal}
+use Rattle.terms.specs.FormBytes.{ruleCount}
+use Rattle.terms.specs.Count.{sizeOf}
+use Rattle.terms.specs.Calls.{makingRefusal, formMask, mostWalked}
+use Rattle.terms.specs.Demand.{FormOfSheet, Demand3}
+use Rattle.terms.proofs.Demand.{making-passes, form-meets}
+use Rattle.making.specs.Making.{refusalOf, Leaves}
+use Rattle.making.specs.declared.Making.{Making}
+use Rattle.making.specs.declared.Making.the-variants as making
+use Rattle.forms.specs.Evaluation.{orMask}
+use Rattle.forms.specs.declared.unfold.Unfolding.{Unfolding}
+use Rattle.forms.specs.declared.unfold.Unfolding.the-variants.{Written}
+use Rattle.walking.specs.declared.answer.Walk.the-variants.{Mask}
+use Rattle.certificate.specs.Certify.{Slices, Walked, Ran, Follows, CallsMade, Certificate}
+use Rattle.certificate.specs.declared.certify.Answers.{Answers}
+use Rattle.certificate.proofs.Form.{form-of}
+use Rattle.certificate.proofs.Unfolded.{unfolds, tree-first}
+
+module _ (sheet : List ℕ) (answers : Answers) (form : List ℕ) (lent : Slices) (form′ : List ℕ) (left : Slices) (passes : refusal sheet ≡ 0) (room : 4 + 192 * nodesOf sheet ≤ length form) where
+  abbrev alphabet : List ℕ
+  alphabet = alphabetOf sheet
+
+  abbrev automaton : List ℕ
+  automaton = automatonOf sheet
+
+  abbrev tree : Tree
+  tree = sheetTree sheet
+
+  module _ (n : ℕ) (made : answers .made ≡ making.Written n) (formed : FormOfSheet sheet (take n form′)) (ran : Ran alphabet automaton (take n form′) answers lent left) where
+    abbrev written : List ℕ
+    written = take n form′
+
+    demand : Demand3 sheet written
+    demand = form-meets sheet passes written formed
+
+    module _ (counts : 2 * ruleCount written ≤ length (lent .counts)) (long : sizeOf tree ≤ length (lent .tree)) where
+      nodes-written : answers .unfolded ≡ Written (sizeOf tree)
+      nodes-written = unfolds (ran .unfolded) tree (formed .tree) (demand .unfolded _ _ counts long)
+
+      tree-written : take (sizeOf tree) (left .tree) ≡ preorder tree
+      tree-written = tree-first (ran .unfolded) tree (formed .tree) (demand .unfolded _ _ counts long)
+
+      same-mask : sizeOf tree ≤ mostWalked → sizeOf tree ≤ length (lent .masks) → answers .walked ≡ Mask (formMask alphabet automaton written)
+      same-mask small masks =
+          let w = subst (λ (u : Unfolding). Walked alphabet automaton u (left .tree) (answers .walked) (left .masks) (lent .masks)) nodes-written (ran .walked) in
+          rw (tree-written, demand .walked small _ masks, demand .same) at (w .0)
+
+    certificate : Certificate sheet answers lent form′ left
+    certificate = record {
+      written = n;
+      mask = formMask alphabet automaton written;
+      made = made;
+      formed = formed;
+      evaluated = λ h. ran .evaluated ∙ ap (λ z. orMask z (formMask alphabet automaton written)) (demand .evaluated _ h);
+      runs = demand .mask;
+      unfolded = λ h k. (nodes-written h k, tree-written h k);
+      walked = same-mask;
+    }
+
+  by-answer : (m : Making) → answers .made ≡ m → refusalOf m ≡ makingRefusal sheet (length form) → Leaves sheet m form′ form
+      → Follows sheet m form′ answers lent left → Certificate sheet answers lent form′ left
+  by-answer (making.Refused n) e r l f = absurd (omega (arith, r, l .0, making-passes sheet passes (length form) (omega arith)))
+  by-answer (making.Written n) e r l f = certificate n e (form-of sheet l) f
+
+  pub calls-certify : CallsMade sheet answers form lent form′ left → Certificate sheet answers lent form′ left
+  calls-certify c = by-answer (answers .made) refl (c .refused) (c .formed) (c .followed)

@@ -1,0 +1,7 @@
+pub mod Form
+pub mod Unfolded
+pub mod Handed
+pub mod Sheet
+pub mod Made
+pub mod Certified
+pub mod Restored

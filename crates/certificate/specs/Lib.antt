@@ -1,0 +1,3 @@
+pub mod Unfolded
+pub mod Certify
+pub mod Restore

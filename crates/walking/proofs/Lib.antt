@@ -1,0 +1,5 @@
+pub mod Trees
+pub mod Passed
+pub mod Noted
+pub mod Reading
+pub mod Outcome
