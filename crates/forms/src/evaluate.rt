@@ -19,7 +19,7 @@ ghost use lib.ListN.{length};
 ghost use Rattle.terms.specs.Relation.{statesAt, relationOf};
 ghost use Rattle.terms.specs.Sheet.{transitionsOf};
 ghost use Rattle.terms.specs.FormBytes.{ruleCount, formRule};
-ghost use Rattle.terms.specs.Calls.{lentAfter, evaluationRefusal, relationsOf};
+ghost use Rattle.terms.specs.Calls.{lentAfter, evaluationRefusal, relationsOf, formMask};
 ghost use Rattle.forms.specs.Evaluation.{Evaluable, entryIn, evaluation};
 
 // What evaluating a form answers: the refusal, or the mask of the states at the root of the form's tree.
@@ -135,6 +135,16 @@ fn write_relations(alphabet: &[u8], automaton: &[u8], form: &[u8], relations: &m
     }
 }
 
+// Evaluates a form that the checks let through: the answer is the mask, and the slice ends with the rules' entries, its later numbers kept.
+pub fn evaluate_checked(alphabet: &[u8], automaton: &[u8], form: &[u8], relations: &mut [u64]) -> u8
+    requires { ⌜ evaluationRefusal (now alphabet) (now automaton) (now form) (length (now relations)) ≡ 0 ⌝ }
+    ensures { λ r. ⌜ r ≡ formMask (now (alphabet .entry)) (now (automaton .entry)) (now (form .entry)) ⌝ }
+    ensures { λ _. ⌜ now (relations .exit) ≡ lentAfter 0 (relationsOf (now (alphabet .entry)) (now (automaton .entry)) (now (form .entry))) (now (relations .entry)) ⌝ }
+{
+    write_relations(alphabet, automaton, form, relations);
+    states_of(relations, layout::start_of(form))
+}
+
 // Evaluates a form: refused by 3 and 4 for the alphabet, 14 to 16 for the automaton, 18 for the form, 19 for a slice with fewer numbers than the form has rules.
 // The slice ends with the rules' entries, its later numbers kept.
 pub fn evaluate(alphabet: &[u8], automaton: &[u8], form: &[u8], relations: &mut [u64]) -> Evaluation
@@ -145,7 +155,5 @@ pub fn evaluate(alphabet: &[u8], automaton: &[u8], form: &[u8], relations: &mut 
     if refusal != 0 {
         return Evaluation::Refused(refusal);
     }
-    write_relations(alphabet, automaton, form, relations);
-    let start = layout::start_of(form);
-    Evaluation::Mask(states_of(relations, start))
+    Evaluation::Mask(evaluate_checked(alphabet, automaton, form, relations))
 }

@@ -13,17 +13,18 @@ use crate::write::write_head;
 use forms::layout::HEAD;
 use forms::layout::RULE;
 use sheets::limits::CONTENTS;
+use sheets::sheet::Layout;
 use sheets::sheet::Reading;
 use sheets::sheet::read_sheet;
 ghost use mathlib.Core.Path.{_≡_};
 ghost use lib.ListN.{length};
 ghost use Rattle.terms.specs.Calls.{makingRefusal};
-ghost use Rattle.terms.specs.Sheet.{rulesBody};
+ghost use Rattle.terms.specs.Sheet.{alphabetOf, rulesBody, rulesOf};
 ghost use Rattle.making.specs.Rules.{Grammar};
-ghost use Rattle.making.specs.Making.{FormWritten, refusalOf, Leaves};
+ghost use Rattle.making.specs.Making.{FormWritten, ReadWithRoom, refusalOf, Leaves};
 
 // How many rules of a form a node of a sheet may take.
-const RULES_FOR_NODE: usize = 16;
+pub const RULES_FOR_NODE: usize = 16;
 
 // What making a form answers: the refusal, or the length of the form.
 pub enum Making {
@@ -43,6 +44,22 @@ fn write_form(form: &mut [u8], alphabet: &[u8], body: &[u8], rules: usize) -> us
     HEAD + RULE * count
 }
 
+// A form of a sheet that was read, into a slice with room for it: the answer is its length, and later bytes are kept.
+pub fn make_read(sheet: &[u8], layout: Layout, form: &mut [u8]) -> usize
+    requires { ⌜ ReadWithRoom (now sheet) layout (length (now form)) ⌝ }
+    ensures { λ r. ⌜ FormWritten (alphabetOf (now (sheet .entry))) (rulesOf (now (sheet .entry))) r (now (form .exit)) (now (form .entry)) ⌝ }
+{
+    let rules = CONTENTS + layout.terminals;
+    let automaton = layout.automaton;
+    let count = layout.rules;
+    write_form(
+        form,
+        &sheet[CONTENTS..rules],
+        &sheet[rules..automaton],
+        count,
+    )
+}
+
 // A form of the sheet, into a lent slice.
 pub fn make_form(sheet: &[u8], form: &mut [u8]) -> Making
     ensures { λ r. ⌜ refusalOf r ≡ makingRefusal (now (sheet .entry)) (length (now (form .entry))) ⌝ }
@@ -54,15 +71,7 @@ pub fn make_form(sheet: &[u8], form: &mut [u8]) -> Making
             if form.len() < HEAD + RULE * (RULES_FOR_NODE * layout.nodes) {
                 return Making::Refused(17);
             }
-            let rules = CONTENTS + layout.terminals;
-            let automaton = layout.automaton;
-            let count = layout.rules;
-            Making::Written(write_form(
-                form,
-                &sheet[CONTENTS..rules],
-                &sheet[rules..automaton],
-                count,
-            ))
+            Making::Written(make_read(sheet, layout, form))
         }
     }
 }

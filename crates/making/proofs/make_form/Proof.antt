@@ -1,7 +1,7 @@
--- `making::make_form` meets its contract: the tests are those of the refusal, in its order, and the parts of the sheet that passed are a grammar over its alphabet.
+-- `making::make_form` meets its contract: the tests are those of the refusal, in its order.
 use mathlib.Core.Path.{refl, sym, _∙_}
 use native.Mathlib.Omega.{arith}
-use Rattle.making.proofs.SheetRead.{sheet-refused, sheet-read, few-nodes, parts-there, alphabet-part, rules-part, too-short, long-enough, grammar, sheet-made}
+use Rattle.making.proofs.SheetRead.{sheet-refused, sheet-read, few-nodes, too-short, long-enough}
 use borrow.Author.Needs.{needs}
 use Rattle.making.proofs.make_form.Statement.{statement}
 use Rattle.making.proofs.make_form.Tie as tie
@@ -39,47 +39,10 @@ returns c =
     let read = sheet-read _ _ (sym (layout .before .before .read-sheet .ensures) ∙ layout .layout .given .1) in
     (too-short read _ (c .if1 .taken), (omega arith, refl))
 
-add-rules : tie.Need-add-rules
-add-rules c =
+make-read-requires : tie.Need-make-read-requires
+make-read-requires c κs =
     let layout = c .before .before .before .before in
-    let read = sheet-read _ _ (sym (layout .before .before .read-sheet .ensures) ∙ layout .layout .given .1) in
-    omega (arith, parts-there read, layout .before .before .before .before .before .good)
-
-sub-write-form : tie.Need-sub-write-form
-sub-write-form c = search needs
-
-part-write-form-start : tie.Need-part-write-form-start
-part-write-form-start c = search needs
-
-part-write-form-end : tie.Need-part-write-form-end
-part-write-form-end c =
-    let layout = c .before .before .before .before .before in
-    let read = sheet-read _ _ (sym (layout .before .before .read-sheet .ensures) ∙ layout .layout .given .1) in
-    omega (arith, parts-there read)
-
-sub-write-form-2 : tie.Need-sub-write-form-2
-sub-write-form-2 c =
-    let layout = c .before .before .before .before .before .before in
-    let read = sheet-read _ _ (sym (layout .before .before .read-sheet .ensures) ∙ layout .layout .given .1) in
-    omega (arith, parts-there read)
-
-part-write-form-start-2 : tie.Need-part-write-form-start-2
-part-write-form-start-2 c =
-    let layout = c .before .before .before .before .before .before in
-    let read = sheet-read _ _ (sym (layout .before .before .read-sheet .ensures) ∙ layout .layout .given .1) in
-    omega (arith, parts-there read)
-
-part-write-form-end-2 : tie.Need-part-write-form-end-2
-part-write-form-end-2 c =
-    let layout = c .before .before .before .before .before .before in
-    let read = sheet-read _ _ (sym (layout .before .before .read-sheet .ensures) ∙ layout .layout .given .1) in
-    omega (arith, parts-there read)
-
-write-form-requires : tie.Need-write-form-requires
-write-form-requires c κs =
-    let layout = c .before .before .before .before .before .before .before in
-    let read = sheet-read _ _ (sym (layout .before .before .read-sheet .ensures) ∙ layout .layout .given .1) in
-    grammar read _ (c .before .before .before .before .if1 .left) (alphabet-part read) (rules-part read)
+    record { read = sym (layout .before .before .read-sheet .ensures) ∙ layout .layout .given .1; fits = c .before .if1 .left }
 
 returns-2 : tie.Need-returns-2
 returns-2 c =
@@ -92,9 +55,11 @@ same-length c = search needs
 
 returns-3 : tie.Need-returns-3
 returns-3 c =
-    let layout = c .before .before .before .before .before .before .before .before .before .before in
+    let call = c .before .before in
+    let room = call .before .before in
+    let layout = room .before .before .before in
     let read = sheet-read _ _ (sym (layout .before .before .read-sheet .ensures) ∙ layout .layout .given .1) in
-    (long-enough read _ (c .before .before .before .before .before .before .before .if1 .left), sheet-made read (alphabet-part read) (rules-part read) (c .before .before .write-form .ensures))
+    (long-enough read _ (room .if1 .left), call .make-read .ensures)
 
 pub make-form-spec : {M : Type 1} → statement M
 make-form-spec =
@@ -107,14 +72,7 @@ make-form-spec =
     mul-if1-2
     add-if1
     returns
-    add-rules
-    sub-write-form
-    part-write-form-start
-    part-write-form-end
-    sub-write-form-2
-    part-write-form-start-2
-    part-write-form-end-2
-    write-form-requires
+    make-read-requires
     returns-2
     same-length
     returns-3)
