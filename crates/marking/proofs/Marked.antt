@@ -1,0 +1,104 @@
+-- What marking a sheet answers and leaves, by what was read of it and by the lengths of the slices.
+use mathlib.Core.Path.{_≡_, refl, sym, ap, _∙_}
+use mathlib.Core.List.{List, []}
+use Prim.Native.Nat.{ℕ, zero, suc, _*_, _-_, _≤_, _<_}
+use native.Mathlib.Omega.{arith}
+use borrow.Author.Tests.{lt-ltb, le-ltb}
+use lib.ListN.{length, take, drop}
+use Rattle.terms.specs.Tree.{preorder}
+use Rattle.terms.specs.Grammar.{terminalRank}
+use Rattle.terms.specs.Automaton.{mask}
+use Rattle.terms.specs.Sheet.{alphabetOf, rulesOf, automatonOf, finals, nodesOf, transitionsOf, Verdict, sheetTree, sheetMask, sheetVerdict}
+use Rattle.terms.specs.FormBytes.{ruleOffset}
+use Rattle.terms.specs.Calls.{lentAfter, rulesAsked, markingRefusal, makingRefusal, evaluationRefusal, relationsOf, formMask, walkMask}
+use Rattle.terms.specs.Demand.{FormOfSheet, Demand3}
+use Rattle.terms.proofs.Refusal.{is-first}
+use Rattle.terms.proofs.Demand.{form-meets}
+use Rattle.terms.proofs.Tree.Whole.{tree-of-preorder}
+use Rattle.terms.proofs.Grammar.Derivation.{derived-ranked}
+use Rattle.terms.proofs.Sheet.Automaton.{automaton-passed}
+use Rattle.terms.proofs.Sheet.Bodies.{joined}
+use Rattle.terms.proofs.Sheet.Passed.{sheet-passed, sheet-proper}
+use Rattle.sheets.specs.declared.sheet.Layout.{Layout}
+use Rattle.making.specs.Making.{FormWritten}
+use Rattle.making.proofs.SheetRead.{SheetRead, too-short, long-enough}
+use Rattle.marking.specs.declared.answer.Mark.{Mark}
+use Rattle.marking.specs.declared.answer.Mark.the-variants.{Refused}
+use Rattle.marking.specs.Marking.{orVerdict, verdictOn, SlicesLeft}
+use Rattle.marking.proofs.Full.{none-full}
+
+-- The answer and the slices, by the refusal.
+
+module _ {refusal : ℕ} (sheet form relations : List ℕ) (verdict : Verdict) (mask : ℕ) where
+  -- a refusal leaves the slices as they were
+  pub refuses : {n : ℕ} → n ≡ refusal → (n ≡ 0 → ⊥) → (Refused n ≡ orVerdict refusal verdict mask) × SlicesLeft refusal sheet form form relations relations
+  refuses e h = go refusal e h
+    where
+      go : {n : ℕ} (m : ℕ) → n ≡ m → (n ≡ 0 → ⊥) → (Refused n ≡ orVerdict m verdict mask) × SlicesLeft m sheet form form relations relations
+      go zero e h = absurd (h e)
+      go (suc m) e h = (ap Refused e, record { written = 0; formed = refl; evaluated = refl })
+
+  -- what was found of one number holds of the refusal that it is
+  pub marks : {n : ℕ} {r : Mark} {form′ relations′ : List ℕ} → n ≡ refusal → r ≡ orVerdict n verdict mask → SlicesLeft n sheet form′ form relations′ relations
+      → (r ≡ orVerdict refusal verdict mask) × SlicesLeft refusal sheet form′ form relations′ relations
+  marks e a l = rw (← e) (a, l)
+
+-- What marking refuses of a sheet.
+
+module _ (s : List ℕ) (room numbers : ℕ) where
+  -- form making's refusal
+  pub not-made : {n : ℕ} → n ≡ makingRefusal s room → (n ≡ 0 → ⊥) → n ≡ markingRefusal [] s room numbers
+  unfolding markingRefusal
+  not-made e h = rw none-full (is-first _ e h)
+
+module _ {s : List ℕ} {l : Layout} (read : SheetRead s l) (room numbers : ℕ) where
+  pub form-short : room < ruleOffset (16 * l .nodes) → 17 ≡ markingRefusal [] s room numbers
+  form-short h = not-made s room numbers (too-short read room h) (λ e. omega arith)
+
+  pub numbers-short : ruleOffset (16 * l .nodes) ≤ room → numbers < 16 * l .nodes → 19 ≡ markingRefusal [] s room numbers
+  unfolding markingRefusal
+  numbers-short h k = rw (none-full, sym (long-enough read room h), lt-ltb numbers (rulesAsked s) (rw (read .nodes) at k))
+
+  pub none-short : ruleOffset (16 * l .nodes) ≤ room → 16 * l .nodes ≤ numbers → 0 ≡ markingRefusal [] s room numbers
+  unfolding markingRefusal
+  none-short h k = rw (none-full, sym (long-enough read room h), le-ltb numbers (rulesAsked s) (rw (read .nodes) at k))
+
+-- A sheet that was read.
+
+module _ {s : List ℕ} {l : Layout} (read : SheetRead s l) where
+  pub automaton-part : take (length s - l .automaton) (drop (l .automaton) s) ≡ automatonOf s
+  automaton-part = rw (read .automaton) (sym (joined s (sheet-passed s (read .passed) .joined) .automaton))
+
+  pub automaton-long : 2 ≤ length (take (length s - l .automaton) (drop (l .automaton) s))
+  automaton-long = rw automaton-part (omega (arith, automaton-passed (alphabetOf s) (automatonOf s) (sheet-passed s (read .passed) .automaton) .long))
+
+  -- what the walk over the sheet's tree answers is the sheet's mask
+  walked : walkMask (alphabetOf s) (automatonOf s) (preorder (sheetTree s)) ≡ sheetMask s
+  unfolding walkMask sheetTree sheetMask
+  walked =
+      ap (mask (transitionsOf (alphabetOf s) (automatonOf s)))
+      (tree-of-preorder (terminalRank (alphabetOf s)) (sheetTree s) (derived-ranked (alphabetOf s) (rulesOf s) (sheet-proper s (read .passed))))
+
+  -- and its form is written
+  module _ {n : ℕ} {exit entry : List ℕ} (w : FormWritten (alphabetOf s) (rulesOf s) n exit entry) where
+    formed : FormOfSheet s (take n exit)
+    unfolding sheetTree nodesOf
+    formed = record { valid = w .accepted; tree = w .tree; few = w .linear }
+
+    demand : Demand3 s (take n exit)
+    demand = form-meets s (read .passed) (take n exit) formed
+
+    module _ {alphabet automaton : List ℕ} (a : alphabet ≡ alphabetOf s) (b : automaton ≡ automatonOf s) where
+      pub evaluable : (numbers : ℕ) → 16 * l .nodes ≤ numbers → evaluationRefusal alphabet automaton (take n exit) numbers ≡ 0
+      evaluable numbers h = rw (a, b) (demand .evaluated numbers (omega (arith, formed .few, read .nodes)))
+
+      -- the answer
+      pub verdict-is : {r : Mark} {m : ℕ} → m ≡ formMask alphabet automaton (take n exit) → r ≡ verdictOn m (finals automaton)
+          → r ≡ orVerdict 0 (sheetVerdict s) (sheetMask s)
+      unfolding sheetVerdict
+      verdict-is m e = e ∙ rw (m, a, b, ← demand .same, walked)
+
+      -- and the slices
+      pub slices-left : (relations : List ℕ) {relations′ : List ℕ} → relations′ ≡ lentAfter 0 (relationsOf alphabet automaton (take n exit)) relations
+          → SlicesLeft 0 s exit entry relations′ relations
+      slices-left relations e = record { written = n; formed = w; evaluated = rw (a, b) at e }

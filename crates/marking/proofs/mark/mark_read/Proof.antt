@@ -1,0 +1,105 @@
+-- `marking::mark::mark_read` meets its contract: the sheet's form passes evaluation's checks, and its mask and relations are those of the sheet.
+use mathlib.Core.Path.{sym}
+use native.Mathlib.Omega.{arith}
+use lib.Seq.{length-take-le}
+use borrow.Author.Needs.{needs}
+use Rattle.making.proofs.SheetRead.{SheetRead, sheet-read, parts-there, alphabet-part}
+use Rattle.marking.proofs.Marked.{automaton-part, automaton-long, evaluable, verdict-is, slices-left}
+use Rattle.marking.proofs.mark.mark_read.Statement.{statement}
+use Rattle.marking.proofs.mark.mark_read.Tie as tie
+
+-- what is known of the sheet
+known : (c : tie.After-struct-known) → SheetRead (c .before .before .before .before .args .sheet .now) (c .before .before .before .before .args .layout)
+known c = sheet-read _ _ (c .before .before .before .before .pre .0 .read)
+
+add-rules : tie.Need-add-rules
+add-rules c = omega (arith, parts-there (known c), c .before .before .before .before .good)
+
+make-read-requires : tie.Need-make-read-requires
+make-read-requires c κs = c .before .before .before .before .before .pre .0
+
+sub-evaluate-checked : tie.Need-sub-evaluate-checked
+sub-evaluate-checked c = search needs
+
+part-evaluate-checked-start : tie.Need-part-evaluate-checked-start
+part-evaluate-checked-start c = search needs
+
+part-evaluate-checked-end : tie.Need-part-evaluate-checked-end
+part-evaluate-checked-end c = omega (arith, parts-there (known (c .before .before .before .before)))
+
+sub-evaluate-checked-2 : tie.Need-sub-evaluate-checked-2
+sub-evaluate-checked-2 c = omega (arith, parts-there (known (c .before .before .before .before .before)))
+
+part-evaluate-checked-start-2 : tie.Need-part-evaluate-checked-start-2
+part-evaluate-checked-start-2 c = omega (arith, parts-there (known (c .before .before .before .before .before)))
+
+part-evaluate-checked-end-2 : tie.Need-part-evaluate-checked-end-2
+part-evaluate-checked-end-2 c = search needs
+
+slice-reshare-prefix-evaluate-checked : tie.Need-slice-reshare-prefix-evaluate-checked
+slice-reshare-prefix-evaluate-checked c =
+    let form = c .before .before .before in
+    omega (arith, form .before .make-read .ensures .within, form .form .given)
+
+slice-aggregate-evaluate-checked : tie.Need-slice-aggregate-evaluate-checked
+slice-aggregate-evaluate-checked c =
+    let form = c .before .before .before .before in
+    sym (length-take-le _ _ (omega (arith, form .before .make-read .ensures .within, form .form .given)))
+
+evaluate-checked-requires : tie.Need-evaluate-checked-requires
+evaluate-checked-requires c κs =
+    let made = c .before .before .before .before .before .before in
+    let start = made .before .before in
+    let read = known start in
+    evaluable read (made .make-read .ensures) (alphabet-part read) (automaton-part read) _ (start .before .before .before .before .pre .1)
+
+sub-verdict : tie.Need-sub-verdict
+sub-verdict c = omega (arith, parts-there (known (c .before .before .before .before .before .before .before .before .before .before .before)))
+
+part-verdict-start : tie.Need-part-verdict-start
+part-verdict-start c = omega (arith, parts-there (known (c .before .before .before .before .before .before .before .before .before .before .before)))
+
+part-verdict-end : tie.Need-part-verdict-end
+part-verdict-end c = search needs
+
+verdict-requires : tie.Need-verdict-requires
+verdict-requires c κs = automaton-long (known (c .before .before .before .before .before .before .before .before .before .before .before .before))
+
+same-length : tie.Need-same-length
+same-length c = search needs
+
+same-length-2 : tie.Need-same-length-2
+same-length-2 c = search needs
+
+returns : tie.Need-returns
+returns c =
+    let call = c .before .before .before .before in
+    let made = call .before .before .before .before .before .before .before in
+    let read = known (made .before .before) in
+    let written = made .make-read .ensures in (
+      verdict-is read written (alphabet-part read) (automaton-part read) (call .evaluate-checked .ensures .0) (c .verdict .ensures),
+      slices-left read written (alphabet-part read) (automaton-part read) _ (call .evaluate-checked .ensures .1),
+    )
+
+pub mark-read-spec : {M : Type 1} → statement M
+mark-read-spec =
+    tie.close
+    (tie.spec
+    add-rules
+    make-read-requires
+    sub-evaluate-checked
+    part-evaluate-checked-start
+    part-evaluate-checked-end
+    sub-evaluate-checked-2
+    part-evaluate-checked-start-2
+    part-evaluate-checked-end-2
+    slice-reshare-prefix-evaluate-checked
+    slice-aggregate-evaluate-checked
+    evaluate-checked-requires
+    sub-verdict
+    part-verdict-start
+    part-verdict-end
+    verdict-requires
+    same-length
+    same-length-2
+    returns)

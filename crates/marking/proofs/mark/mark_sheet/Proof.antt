@@ -1,0 +1,91 @@
+-- `marking::mark::mark_sheet` meets its contract: the tests are those of the refusal, in its order.
+use mathlib.Core.Path.{sym, _∙_}
+use native.Mathlib.Omega.{arith}
+use borrow.Author.Needs.{needs}
+use Rattle.making.proofs.SheetRead.{sheet-refused, sheet-read, few-nodes}
+use Rattle.marking.proofs.Marked.{refuses, marks, not-made, form-short, numbers-short, none-short}
+use Rattle.marking.proofs.mark.mark_sheet.Statement.{statement}
+use Rattle.marking.proofs.mark.mark_sheet.Tie as tie
+
+read-sheet-requires : tie.Need-read-sheet-requires
+read-sheet-requires c κs = search needs
+
+enum-known-n : tie.Need-enum-known-n
+enum-known-n c = search needs
+
+enum-known-layout : tie.Need-enum-known-layout
+enum-known-layout c = search needs
+
+mul-asked : tie.Need-mul-asked
+mul-asked c =
+    let layout = c .before .before in
+    let read = sheet-read _ _ (sym (layout .before .before .read-sheet .ensures) ∙ layout .layout .given .1) in
+    omega (arith, few-nodes read)
+
+mul-if1 : tie.Need-mul-if1
+mul-if1 c =
+    let layout = c .before .before in
+    let read = sheet-read _ _ (sym (layout .before .before .read-sheet .ensures) ∙ layout .layout .given .1) in
+    omega (arith, few-nodes read)
+
+add-if1 : tie.Need-add-if1
+add-if1 c =
+    let layout = c .before .before in
+    let read = sheet-read _ _ (sym (layout .before .before .read-sheet .ensures) ∙ layout .layout .given .1) in
+    omega (arith, few-nodes read)
+
+returns : tie.Need-returns
+returns c =
+    let layout = c .before .before .before in
+    let read = sheet-read _ _ (sym (layout .before .before .read-sheet .ensures) ∙ layout .layout .given .1) in
+    refuses _ _ _ _ _ (form-short read _ _ (c .if1 .taken)) (λ e. omega arith)
+
+returns-2 : tie.Need-returns-2
+returns-2 c =
+    let layout = c .before .before .before .before in
+    let read = sheet-read _ _ (sym (layout .before .before .read-sheet .ensures) ∙ layout .layout .given .1) in
+    refuses _ _ _ _ _ (numbers-short read _ _ (c .before .if1 .left) (c .if2 .taken)) (λ e. omega arith)
+
+mark-read-requires : tie.Need-mark-read-requires
+mark-read-requires c κs =
+    let numbers = c .before .before in
+    let layout = numbers .before .before .before .before in
+    (record { read = sym (layout .before .before .read-sheet .ensures) ∙ layout .layout .given .1; fits = numbers .before .if1 .left }, numbers .if2 .left)
+
+returns-3 : tie.Need-returns-3
+returns-3 c =
+    let n = c .before in
+    let refused = sheet-refused _ _ _ (sym (n .before .before .read-sheet .ensures) ∙ n .n .given .1) in
+    refuses _ _ _ _ _ (not-made _ _ _ (refused .0) (λ e. omega (arith, refused .1))) (λ e. omega (arith, refused .1))
+
+same-length : tie.Need-same-length
+same-length c = search needs
+
+same-length-2 : tie.Need-same-length-2
+same-length-2 c = search needs
+
+returns-4 : tie.Need-returns-4
+returns-4 c =
+    let call = c .before .before .before .before in
+    let numbers = call .before .before .before in
+    let layout = numbers .before .before .before .before in
+    let read = sheet-read _ _ (sym (layout .before .before .read-sheet .ensures) ∙ layout .layout .given .1) in
+    marks _ _ _ _ _ (none-short read _ _ (numbers .before .if1 .left) (numbers .if2 .left)) (call .mark-read .ensures .0) (call .mark-read .ensures .1)
+
+pub mark-sheet-spec : {M : Type 1} → statement M
+mark-sheet-spec =
+    tie.close
+    (tie.spec
+    read-sheet-requires
+    enum-known-n
+    enum-known-layout
+    mul-asked
+    mul-if1
+    add-if1
+    returns
+    returns-2
+    mark-read-requires
+    returns-3
+    same-length
+    same-length-2
+    returns-4)
