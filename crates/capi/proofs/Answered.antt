@@ -1,0 +1,114 @@
+-- What an answer says of its number and of the result behind the pointer (document 01: a refusal is its number only).
+use mathlib.Core.Path.{_≡_, refl, subst}
+use Prim.Native.Nat.{ℕ, zero, suc}
+use Rattle.terms.specs.Count as count
+use Rattle.sheets.specs.Wrap.{wrappingAfter}
+use Rattle.sheets.specs.declared.wrap.Wrapping.{Wrapping}
+use Rattle.sheets.specs.declared.wrap.Wrapping.the-variants as wrap
+use Rattle.forms.specs.Answer.{sized, labelled}
+use Rattle.forms.specs.Evaluation as evaluation
+use Rattle.forms.specs.Unfolding.{unfolded}
+use Rattle.forms.specs.declared.answer.Size.{Size}
+use Rattle.forms.specs.declared.answer.Size.the-variants as size
+use Rattle.forms.specs.declared.answer.Label.{Label}
+use Rattle.forms.specs.declared.answer.Label.the-variants as label
+use Rattle.forms.specs.declared.evaluate.Evaluation.{Evaluation}
+use Rattle.forms.specs.declared.evaluate.Evaluation.the-variants as evaluating
+use Rattle.forms.specs.declared.unfold.Unfolding.{Unfolding}
+use Rattle.forms.specs.declared.unfold.Unfolding.the-variants as nodes
+use Rattle.walking.specs.Walking as walking
+use Rattle.walking.specs.declared.answer.Walk.{Walk}
+use Rattle.walking.specs.declared.answer.Walk.the-variants as walk
+use Rattle.capi.specs.Result.{resultAfter, sizeNumber}
+
+-- the number is the refusal's, and x stands behind the pointer where b stood
+pub record Says (n x b refusal value : ℕ) : Type 0 where
+  pub number : n ≡ refusal
+  pub result : x ≡ resultAfter refusal value b
+
+-- evaluation
+
+abbrev maskNumber : Evaluation → ℕ
+maskNumber (evaluating.Refused n) = n
+maskNumber (evaluating.Mask m) = 0
+
+abbrev maskResult : Evaluation → ℕ → ℕ
+maskResult (evaluating.Refused n) b = b
+maskResult (evaluating.Mask m) b = m
+
+pub mask-says : (k v b : ℕ) (r : Evaluation) → evaluation.orMask k v ≡ r → Says (maskNumber r) (maskResult r b) b k v
+mask-says zero v b r e = subst (λ (x : Evaluation). Says (maskNumber x) (maskResult x b) b zero v) e (record { number = refl; result = refl })
+mask-says (suc k) v b r e = subst (λ (x : Evaluation). Says (maskNumber x) (maskResult x b) b (suc k) v) e (record { number = refl; result = refl })
+
+-- the walk
+
+abbrev walkNumber : Walk → ℕ
+walkNumber (walk.Refused n) = n
+walkNumber (walk.Mask m) = 0
+
+abbrev walkResult : Walk → ℕ → ℕ
+walkResult (walk.Refused n) b = b
+walkResult (walk.Mask m) b = m
+
+pub walk-says : (k v b : ℕ) (r : Walk) → walking.orMask k v ≡ r → Says (walkNumber r) (walkResult r b) b k v
+walk-says zero v b r e = subst (λ (x : Walk). Says (walkNumber x) (walkResult x b) b zero v) e (record { number = refl; result = refl })
+walk-says (suc k) v b r e = subst (λ (x : Walk). Says (walkNumber x) (walkResult x b) b (suc k) v) e (record { number = refl; result = refl })
+
+-- unfolding
+
+abbrev nodesNumber : Unfolding → ℕ
+nodesNumber (nodes.Refused n) = n
+nodesNumber (nodes.Written m) = 0
+
+abbrev nodesResult : Unfolding → ℕ → ℕ
+nodesResult (nodes.Refused n) b = b
+nodesResult (nodes.Written m) b = m
+
+pub nodes-says : (k v b : ℕ) (r : Unfolding) → unfolded k v ≡ r → Says (nodesNumber r) (nodesResult r b) b k v
+nodes-says zero v b r e = subst (λ (x : Unfolding). Says (nodesNumber x) (nodesResult x b) b zero v) e (record { number = refl; result = refl })
+nodes-says (suc k) v b r e = subst (λ (x : Unfolding). Says (nodesNumber x) (nodesResult x b) b (suc k) v) e (record { number = refl; result = refl })
+
+-- wrap
+
+abbrev sheetNumber : Wrapping → ℕ
+sheetNumber (wrap.Refused n) = n
+sheetNumber (wrap.Written m) = 0
+
+abbrev sheetResult : Wrapping → ℕ → ℕ
+sheetResult (wrap.Refused n) b = b
+sheetResult (wrap.Written m) b = m
+
+pub sheet-says : (k v b : ℕ) (r : Wrapping) → wrappingAfter k v ≡ r → Says (sheetNumber r) (sheetResult r b) b k v
+sheet-says zero v b r e = subst (λ (x : Wrapping). Says (sheetNumber x) (sheetResult x b) b zero v) e (record { number = refl; result = refl })
+sheet-says (suc k) v b r e = subst (λ (x : Wrapping). Says (sheetNumber x) (sheetResult x b) b (suc k) v) e (record { number = refl; result = refl })
+
+-- label
+
+abbrev labelNumber : Label → ℕ
+labelNumber (label.Refused n) = n
+labelNumber (label.At f) = 0
+
+abbrev labelResult : Label → ℕ → ℕ
+labelResult (label.Refused n) b = b
+labelResult (label.At f) b = f .0
+
+pub label-says : (k v b : ℕ) (r : Label) → labelled k v ≡ r → Says (labelNumber r) (labelResult r b) b k v
+label-says zero v b r e = subst (λ (x : Label). Says (labelNumber x) (labelResult x b) b zero v) e (record { number = refl; result = refl })
+label-says (suc k) v b r e = subst (λ (x : Label). Says (labelNumber x) (labelResult x b) b (suc k) v) e (record { number = refl; result = refl })
+
+-- size
+
+abbrev sizeRefusal : Size → ℕ
+sizeRefusal (size.Refused n) = n
+sizeRefusal (size.Exact m) = 0
+sizeRefusal size.Over = 0
+
+abbrev sizeResult : Size → ℕ → ℕ
+sizeResult (size.Refused n) b = b
+sizeResult (size.Exact m) b = m
+sizeResult size.Over b = count.largest
+
+pub size-says : (k : ℕ) (s : count.Size) (b : ℕ) (r : Size) → sized k s ≡ r → Says (sizeRefusal r) (sizeResult r b) b k (sizeNumber s)
+size-says zero (count.exact m) b r e = subst (λ (x : Size). Says (sizeRefusal x) (sizeResult x b) b zero m) e (record { number = refl; result = refl })
+size-says zero count.over b r e = subst (λ (x : Size). Says (sizeRefusal x) (sizeResult x b) b zero count.largest) e (record { number = refl; result = refl })
+size-says (suc k) s b r e = subst (λ (x : Size). Says (sizeRefusal x) (sizeResult x b) b (suc k) (sizeNumber s)) e (record { number = refl; result = refl })

@@ -1,0 +1,4 @@
+pub mod Answered
+pub mod Made
+pub mod RuleRead
+pub mod Marked

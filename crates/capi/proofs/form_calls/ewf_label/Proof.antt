@@ -1,0 +1,51 @@
+-- `capi::form_calls::ewf_label` meets its contract: the answer's number, and its value behind the pointer.
+use mathlib.Core.Path.{sym, _∙_}
+use lib.ListN.{length}
+use Rattle.terms.specs.Calls.{labelRefusal, labelAt}
+use borrow.Author.Needs.{needs}
+use Rattle.capi.proofs.Answered.{label-says}
+use Rattle.capi.proofs.form_calls.ewf_label.Statement.{statement}
+use Rattle.capi.proofs.form_calls.ewf_label.Tie as tie
+
+label-requires : tie.Need-label-requires
+label-requires c κs = search needs
+
+enum-known-n : tie.Need-enum-known-n
+enum-known-n c = search needs
+
+enum-known-found : tie.Need-enum-known-found
+enum-known-found c = search needs
+
+same-length : tie.Need-same-length
+same-length c = search needs
+
+returns : tie.Need-returns
+returns c =
+    let told = c .before in
+    let call = told .before .before .before .before in
+    let given = call .before .before .before .before .before .args in
+    let says = label-says (labelRefusal (given .alphabet .now) (given .form .now) (given .position) (length (given .counts .now))) (labelAt (given .alphabet .now) (given .form .now) (given .position)) (given .terminal .now) _ (sym (call .label .ensures .0) ∙ told .n .given .1) in
+    (says .number, (call .label .ensures .1, says .result))
+
+same-length-2 : tie.Need-same-length-2
+same-length-2 c = search needs
+
+returns-2 : tie.Need-returns-2
+returns-2 c =
+    let told = c .before in
+    let call = told .before .before .before .before in
+    let given = call .before .before .before .before .before .args in
+    let says = label-says (labelRefusal (given .alphabet .now) (given .form .now) (given .position) (length (given .counts .now))) (labelAt (given .alphabet .now) (given .form .now) (given .position)) (given .terminal .now) _ (sym (call .label .ensures .0) ∙ told .found .given .1) in
+    (says .number, (call .label .ensures .1, says .result))
+
+pub ewf-label-spec : {M : Type 1} → statement M
+ewf-label-spec =
+    tie.close
+    (tie.spec
+    label-requires
+    enum-known-n
+    enum-known-found
+    same-length
+    returns
+    same-length-2
+    returns-2)

@@ -1,0 +1,61 @@
+-- `capi::form_calls::ewf_unfold` meets its contract: the answer's number, and its value behind the pointer.
+use mathlib.Core.Path.{sym, _∙_}
+use lib.ListN.{length}
+use Rattle.terms.specs.FormBytes.{formTree}
+use Rattle.terms.specs.Count.{sizeOf}
+use Rattle.terms.specs.Calls.{unfoldingRefusal}
+use borrow.Author.Needs.{needs}
+use Rattle.capi.proofs.Answered.{nodes-says}
+use Rattle.capi.proofs.form_calls.ewf_unfold.Statement.{statement}
+use Rattle.capi.proofs.form_calls.ewf_unfold.Tie as tie
+
+unfold-requires : tie.Need-unfold-requires
+unfold-requires c κs = search needs
+
+enum-known-n : tie.Need-enum-known-n
+enum-known-n c = search needs
+
+enum-known-n-2 : tie.Need-enum-known-n-2
+enum-known-n-2 c = search needs
+
+same-length : tie.Need-same-length
+same-length c = search needs
+
+same-length-2 : tie.Need-same-length-2
+same-length-2 c = search needs
+
+returns : tie.Need-returns
+returns c =
+    let told = c .before in
+    let call = told .before .before .before .before .before .before in
+    let given = call .before .before .before .before .before .before .before .args in
+    let says = nodes-says (unfoldingRefusal (given .alphabet .now) (given .form .now) (length (given .counts .now)) (length (given .tree .now))) (sizeOf (formTree (given .alphabet .now) (given .form .now))) (given .nodes .now) _ (sym (call .«unfold» .ensures .0) ∙ told .n .given .1) in
+    (says .number, (call .«unfold» .ensures .1 .0, (call .«unfold» .ensures .1 .1, says .result)))
+
+same-length-3 : tie.Need-same-length-3
+same-length-3 c = search needs
+
+same-length-4 : tie.Need-same-length-4
+same-length-4 c = search needs
+
+returns-2 : tie.Need-returns-2
+returns-2 c =
+    let told = c .before in
+    let call = told .before .before .before .before .before .before in
+    let given = call .before .before .before .before .before .before .before .args in
+    let says = nodes-says (unfoldingRefusal (given .alphabet .now) (given .form .now) (length (given .counts .now)) (length (given .tree .now))) (sizeOf (formTree (given .alphabet .now) (given .form .now))) (given .nodes .now) _ (sym (call .«unfold» .ensures .0) ∙ told .n2 .given .1) in
+    (says .number, (call .«unfold» .ensures .1 .0, (call .«unfold» .ensures .1 .1, says .result)))
+
+pub ewf-unfold-spec : {M : Type 1} → statement M
+ewf-unfold-spec =
+    tie.close
+    (tie.spec
+    unfold-requires
+    enum-known-n
+    enum-known-n-2
+    same-length
+    same-length-2
+    returns
+    same-length-3
+    same-length-4
+    returns-2)

@@ -1,0 +1,60 @@
+-- `capi::rule_calls::ewf_read_rule` meets its contract.
+use mathlib.Core.Path.{sym, ap, _∙_}
+use mathlib.Core.List.{_++_}
+use native.Mathlib.Omega.{arith}
+use lib.ListN.{drop}
+use borrow.Author.Needs.{needs}
+use Rattle.terms.proofs.Lent.{lent-kept, lent-written}
+use Rattle.forms.specs.declared.rule.FormRule.{FormRule}
+use Rattle.forms.proofs.Rules.{passed, rule-whole}
+use Rattle.capi.specs.Result.{ruleNumbers}
+use Rattle.capi.proofs.RuleRead.{rule-passed}
+use Rattle.capi.proofs.rule_calls.ewf_read_rule.Statement.{statement}
+use Rattle.capi.proofs.rule_calls.ewf_read_rule.Tie as tie
+
+rule-refusal-requires : tie.Need-rule-refusal-requires
+rule-refusal-requires c κs = search needs
+
+returns : tie.Need-returns
+returns c =
+    let e = c .before .rule-refusal .ensures in
+    (e, lent-kept _ _ e (c .if1 .taken))
+
+cast-t9 : tie.Need-cast-t9
+cast-t9 c =
+    let p = rule-passed _ _ _ _ (sym (c .before .rule-refusal .ensures) ∙ c .if1 .left) in
+    omega (arith, p .exists, passed _ _ (p .ranked) (p .valid) .few)
+
+rule-at-requires : tie.Need-rule-at-requires
+rule-at-requires c κs =
+    let p = rule-passed _ _ _ _ (sym (c .before .rule-refusal .ensures) ∙ c .if1 .left) in
+    rule-whole _ _ (p .ranked) (p .valid) _ (p .exists)
+
+write-numbers-requires : tie.Need-write-numbers-requires
+write-numbers-requires c κs =
+    let checked = c .before .before in
+    rule-passed _ _ _ _ (sym (checked .before .rule-refusal .ensures) ∙ checked .if1 .left) .places
+
+same-length : tie.Need-same-length
+same-length c = search needs
+
+returns-2 : tie.Need-returns-2
+returns-2 c =
+    let call = c .before .before in
+    let read = call .before .before in
+    let checked = read .before in
+    let given = checked .before .before .before .before .before .args in
+    let e = checked .before .rule-refusal .ensures in
+    (sym (checked .if1 .left) ∙ e, lent-written _ _ e (checked .if1 .left) (call .write-numbers .ensures ∙ ap (λ (r : FormRule). ruleNumbers r ++ drop 7 (given .rule .now)) (read .rule-at .ensures)))
+
+pub ewf-read-rule-spec : {M : Type 1} → statement M
+ewf-read-rule-spec =
+    tie.close
+    (tie.spec
+    rule-refusal-requires
+    returns
+    cast-t9
+    rule-at-requires
+    write-numbers-requires
+    same-length
+    returns-2)

@@ -1,0 +1,48 @@
+-- `capi::sheet_calls::ewf_make_form` meets its contract.
+use lib.ListN.{length}
+use borrow.Author.Needs.{needs}
+use Rattle.terms.specs.Calls.{makingRefusal}
+use Rattle.capi.proofs.Made.{none-made, form-made}
+use Rattle.capi.proofs.sheet_calls.ewf_make_form.Statement.{statement}
+use Rattle.capi.proofs.sheet_calls.ewf_make_form.Tie as tie
+
+make-form-requires : tie.Need-make-form-requires
+make-form-requires c κs = search needs
+
+enum-known-n : tie.Need-enum-known-n
+enum-known-n c = search needs
+
+enum-known-n-2 : tie.Need-enum-known-n-2
+enum-known-n-2 c = search needs
+
+same-length : tie.Need-same-length
+same-length c = search needs
+
+returns : tie.Need-returns
+returns c =
+    let told = c .before in
+    let call = told .before .before .before .before in
+    let given = call .before .before .before .before .args in
+    none-made (given .sheet .now) _ (given .form .now) (makingRefusal (given .sheet .now) (length (given .form .now))) (given .written .now) (call .make-form .ensures .0) (call .make-form .ensures .1) (told .n .given .1)
+
+same-length-2 : tie.Need-same-length-2
+same-length-2 c = search needs
+
+returns-2 : tie.Need-returns-2
+returns-2 c =
+    let told = c .before in
+    let call = told .before .before .before .before in
+    let given = call .before .before .before .before .args in
+    form-made (given .sheet .now) _ (given .form .now) (makingRefusal (given .sheet .now) (length (given .form .now))) (given .written .now) (call .make-form .ensures .0) (call .make-form .ensures .1) (told .n2 .given .1)
+
+pub ewf-make-form-spec : {M : Type 1} → statement M
+ewf-make-form-spec =
+    tie.close
+    (tie.spec
+    make-form-requires
+    enum-known-n
+    enum-known-n-2
+    same-length
+    returns
+    same-length-2
+    returns-2)

@@ -1,0 +1,52 @@
+-- `capi::tree_calls::ewf_wrap` meets its contract: the answer's number, and its value behind the pointer.
+use mathlib.Core.Path.{sym, _∙_}
+use lib.ListN.{length}
+use Rattle.terms.specs.Sheet.{wrapped}
+use Rattle.terms.specs.Calls.{wrapRefusal}
+use borrow.Author.Needs.{needs}
+use Rattle.capi.proofs.Answered.{sheet-says}
+use Rattle.capi.proofs.tree_calls.ewf_wrap.Statement.{statement}
+use Rattle.capi.proofs.tree_calls.ewf_wrap.Tie as tie
+
+wrap-requires : tie.Need-wrap-requires
+wrap-requires c κs = search needs
+
+enum-known-n : tie.Need-enum-known-n
+enum-known-n c = search needs
+
+enum-known-n-2 : tie.Need-enum-known-n-2
+enum-known-n-2 c = search needs
+
+same-length : tie.Need-same-length
+same-length c = search needs
+
+returns : tie.Need-returns
+returns c =
+    let told = c .before in
+    let call = told .before .before .before .before in
+    let given = call .before .before .before .before .before .before .args in
+    let says = sheet-says (wrapRefusal (given .alphabet .now) (given .tree .now) (given .automaton .now) (length (given .sheet .now))) (length (wrapped (given .alphabet .now) (given .tree .now) (given .automaton .now))) (given .written .now) _ (sym (call .wrap .ensures .0) ∙ told .n .given .1) in
+    (says .number, (call .wrap .ensures .1, says .result))
+
+same-length-2 : tie.Need-same-length-2
+same-length-2 c = search needs
+
+returns-2 : tie.Need-returns-2
+returns-2 c =
+    let told = c .before in
+    let call = told .before .before .before .before in
+    let given = call .before .before .before .before .before .before .args in
+    let says = sheet-says (wrapRefusal (given .alphabet .now) (given .tree .now) (given .automaton .now) (length (given .sheet .now))) (length (wrapped (given .alphabet .now) (given .tree .now) (given .automaton .now))) (given .written .now) _ (sym (call .wrap .ensures .0) ∙ told .n2 .given .1) in
+    (says .number, (call .wrap .ensures .1, says .result))
+
+pub ewf-wrap-spec : {M : Type 1} → statement M
+ewf-wrap-spec =
+    tie.close
+    (tie.spec
+    wrap-requires
+    enum-known-n
+    enum-known-n-2
+    same-length
+    returns
+    same-length-2
+    returns-2)
