@@ -1,0 +1,5 @@
+//! Timings of the engine's calls beside other ways to the same results.
+
+pub mod subjects;
+pub mod table;
+pub mod timing;

@@ -1,0 +1,77 @@
+//! The sheets that are timed.
+
+use crate::examples;
+use crate::generate::automata;
+use crate::generate::plan::Plan;
+use crate::generate::random::Random;
+use crate::generate::{shapes, sheets};
+use crate::reference::sheet::Sheet;
+
+pub struct Subject {
+    pub name: &'static str,
+    pub sheet: Vec<u8>,
+}
+
+pub fn subjects() -> Vec<Subject> {
+    let subject = |name, sheet| Subject { name, sheet };
+    vec![
+        subject("W", examples::w()),
+        subject("K7", examples::k7()),
+        subject("largest", largest()),
+        subject("rank 4 nested", nested()),
+        subject("forty rules", examples::with_rules(&examples::doubling(38))),
+        subject("chain of 4,096", examples::with_rules(&chain())),
+        subject("binary of 4,096", examples::with_rules(&binary())),
+    ]
+}
+
+/// 128 nodes in 16 rules or more, 255 transitions and 8 states; of many such sheets the one whose
+/// form may have most rules.
+fn largest() -> Vec<u8> {
+    let full = |case: u64| {
+        let mut random = Random::of_case(1, case);
+        let plan = sheets::plan(&mut random);
+        let full = plan.node_count() == 128 && plan.rules.len() >= 16;
+        full.then(|| widest(&mut random, plan))
+    };
+    let bound = |sheet: &Vec<u8>| Sheet::read(sheet).map_or(0, |sheet| sheet.rule_bound());
+    (0..1000).filter_map(full).max_by_key(bound).expect("some sheet has 128 nodes")
+}
+
+/// Rules of rank 4, each calling the one before twice.
+fn nested() -> Vec<u8> {
+    let mut random = Random::new(4);
+    let rules = shapes::nested(&mut random, 11);
+    widest(&mut random, Plan { alphabet: vec![0, 1, 2, 3, 4], rules, automaton: Vec::new() })
+}
+
+/// The sheet with 8 states and 255 transitions.
+fn widest(random: &mut Random, plan: Plan) -> Vec<u8> {
+    let mut automaton = automata::automaton_of(random, &plan.alphabet, 8);
+    while automaton.len() < 2 + 6 * 255 {
+        let more = automata::automaton_of(random, &plan.alphabet, 8);
+        automaton.extend(&more[2..]);
+    }
+    automaton.truncate(2 + 6 * 255);
+    Plan { automaton, ..plan }.sheet()
+}
+
+/// 4,095 times h over a: one of each power of 2 from 11 to 0.
+fn chain() -> Vec<u8> {
+    let mut rules = examples::doubling(11);
+    rules.truncate(rules.len() - 4);
+    rules.extend([0, 13]);
+    rules.extend((0..12).rev().map(|power| 0x40 + power));
+    rules.push(0);
+    rules
+}
+
+/// h over the full binary tree of f and a with 4,095 nodes.
+fn binary() -> Vec<u8> {
+    let mut rules = vec![0, 1, 0];
+    for rule in 0..11 {
+        rules.extend([0, 3, 1, 0x40 + rule, 0x40 + rule]);
+    }
+    rules.extend([0, 2, 2, 0x40 + 11]);
+    rules
+}

@@ -1,0 +1,117 @@
+//! The table of times.
+
+use super::subjects::Subject;
+use super::timing::best;
+use crate::calls::Engine;
+use crate::idiomatic::Idiomatic;
+use crate::reference::facts::Facts;
+use crate::reference::sheet::Sheet;
+use crate::reference::theorem;
+use std::hint::black_box;
+
+#[derive(Clone, Copy)]
+enum Call {
+    Mark,
+    MakeForm,
+    Evaluate,
+    Label,
+    Unfold,
+    Walk,
+}
+
+impl Call {
+    fn name(self) -> &'static str {
+        match self {
+            Call::Mark => "mark",
+            Call::MakeForm => "make form",
+            Call::Evaluate => "evaluate",
+            Call::Label => "label",
+            Call::Unfold => "unfold",
+            Call::Walk => "walk",
+        }
+    }
+}
+
+/// A sheet with what its calls read.
+struct Prepared {
+    sheet: Vec<u8>,
+    facts: Facts,
+    form: Vec<u8>,
+}
+
+/// One line for each sheet and call: microseconds, and the engine's time over the other way's.
+pub fn print(engine: &dyn Engine, subjects: &[Subject]) {
+    println!(
+        "{:16} {:10} {:>12} {:>12} {:>7} {:>14} {:>9}",
+        "sheet", "call", "engine us", "idiomatic us", "ratio", "theorem 1 us", "ratio"
+    );
+    for subject in subjects {
+        let prepared = prepare(engine, subject);
+        let mut calls = vec![Call::Mark, Call::MakeForm, Call::Evaluate, Call::Label];
+        if prepared.facts.whole.length == 4096 {
+            calls.extend([Call::Unfold, Call::Walk]);
+        }
+        for call in calls {
+            println!("{:16} {}", subject.name, line(engine, &prepared, call));
+        }
+    }
+}
+
+fn line(engine: &dyn Engine, prepared: &Prepared, call: Call) -> String {
+    let ours = time(engine, prepared, call);
+    let theirs = time(&Idiomatic, prepared, call);
+    let mut line = format!("{:10} {ours:12.3} {theirs:12.3} {:7.2}", call.name(), ours / theirs);
+    if let Some(other) = theorem_time(prepared, call) {
+        line += &format!(" {other:14.3} {:9.4}", ours / other);
+    }
+    line
+}
+
+/// The form is the engine's, for both.
+fn prepare(engine: &dyn Engine, subject: &Subject) -> Prepared {
+    let sheet = subject.sheet.clone();
+    let facts = Facts::of(&sheet).expect("a lawful sheet");
+    let (mut form, mut written) = (vec![0; facts.form_need()], 0);
+    assert_eq!(engine.make_form(&sheet, &mut form, &mut written), 0);
+    form.truncate(written);
+    Prepared { sheet, facts, form }
+}
+
+fn time(engine: &dyn Engine, prepared: &Prepared, call: Call) -> f64 {
+    let Prepared { sheet, facts, form } = prepared;
+    let (alphabet, automaton) = (&facts.sheet.alphabet_body, &facts.sheet.automaton_body);
+    let mut bytes = vec![0; facts.form_need().max(4096)];
+    let mut numbers = vec![0; facts.relations_need().max(form.len())];
+    let (mut length, mut mask) = (0, 0);
+    let tree = facts.tree.as_deref().unwrap_or_default();
+    let position = facts.whole.length / 3 * 2;
+    best(|| {
+        let code = match call {
+            Call::Mark => {
+                engine.mark(sheet, &mut bytes, &mut numbers, &mut [0; 3], &mut 0, &mut mask)
+            }
+            Call::MakeForm => engine.make_form(sheet, &mut bytes, &mut length),
+            Call::Evaluate => engine.evaluate(alphabet, automaton, form, &mut numbers, &mut mask),
+            Call::Label => engine.label(alphabet, form, position, &mut numbers, &mut mask),
+            Call::Unfold => engine.unfold(alphabet, form, &mut numbers, &mut bytes, &mut length),
+            Call::Walk => engine.walk(alphabet, automaton, tree, &mut bytes, &mut mask),
+        };
+        assert_eq!(code, 0);
+        black_box((&bytes, &numbers, length, mask));
+    })
+}
+
+/// Theorem 1 gives the mask from the sheet's bytes, or from a sheet already read.
+fn theorem_time(prepared: &Prepared, call: Call) -> Option<f64> {
+    let read = &prepared.facts.sheet;
+    match call {
+        Call::Mark => Some(best(|| {
+            let sheet = Sheet::read(black_box(&prepared.sheet)).expect("a lawful sheet");
+            black_box(theorem::mask(&sheet.automaton, &sheet.rules));
+        })),
+        Call::Evaluate => Some(best(|| {
+            black_box(theorem::mask(&read.automaton, &read.rules));
+        })),
+        _ => None,
+    }
+}

@@ -1,0 +1,204 @@
+//! The engine's C interface behind safe functions; the only unsafe code of this package.
+
+use crate::calls::{Engine, FixedCalls};
+
+unsafe extern "C" {
+    fn ewf_make_form(
+        sheet: *const u8,
+        sheet_length: usize,
+        form: *mut u8,
+        form_length: usize,
+        written: *mut usize,
+    ) -> u8;
+    fn ewf_evaluate(
+        alphabet: *const u8,
+        alphabet_length: usize,
+        automaton: *const u8,
+        automaton_length: usize,
+        form: *const u8,
+        form_length: usize,
+        relations: *mut u64,
+        relations_length: usize,
+        mask: *mut u8,
+    ) -> u8;
+    fn ewf_unfold(
+        alphabet: *const u8,
+        alphabet_length: usize,
+        form: *const u8,
+        form_length: usize,
+        counts: *mut u64,
+        counts_length: usize,
+        tree: *mut u8,
+        tree_length: usize,
+        length: *mut usize,
+    ) -> u8;
+    fn ewf_size(
+        alphabet: *const u8,
+        alphabet_length: usize,
+        form: *const u8,
+        form_length: usize,
+        counts: *mut u64,
+        counts_length: usize,
+        size: *mut u64,
+    ) -> u8;
+    fn ewf_label(
+        alphabet: *const u8,
+        alphabet_length: usize,
+        form: *const u8,
+        form_length: usize,
+        position: u64,
+        counts: *mut u64,
+        counts_length: usize,
+        terminal: *mut u8,
+    ) -> u8;
+    fn ewf_read_rule(
+        alphabet: *const u8,
+        alphabet_length: usize,
+        form: *const u8,
+        form_length: usize,
+        number: usize,
+        rule: *mut u16,
+        rule_length: usize,
+    ) -> u8;
+    fn ewf_walk(
+        alphabet: *const u8,
+        alphabet_length: usize,
+        automaton: *const u8,
+        automaton_length: usize,
+        tree: *const u8,
+        tree_length: usize,
+        masks: *mut u8,
+        masks_length: usize,
+        mask: *mut u8,
+    ) -> u8;
+    fn ewf_wrap(
+        alphabet: *const u8,
+        alphabet_length: usize,
+        tree: *const u8,
+        tree_length: usize,
+        automaton: *const u8,
+        automaton_length: usize,
+        sheet: *mut u8,
+        sheet_length: usize,
+        length: *mut usize,
+    ) -> u8;
+    fn ewf_mark(
+        sheet: *const u8,
+        sheet_length: usize,
+        form: *mut u8,
+        form_length: usize,
+        relations: *mut u64,
+        relations_length: usize,
+        tally: *mut u32,
+        tally_length: usize,
+        verdict: *mut u8,
+        mask: *mut u8,
+    ) -> u8;
+}
+
+/// A call of the C interface: slices read, plain numbers, slices lent, places of results. A slice
+/// becomes its pointer and its length.
+macro_rules! call {
+    (
+        $function:ident(
+            $($read:ident),*; $($number:ident),*; $($lent:ident),*; $($result:ident),*
+        )
+    ) => {
+        // Every slice goes with its own length and every result has a live place, so the engine is
+        // given nothing that it may not read or write.
+        unsafe {
+            $function(
+                $($read.as_ptr(), $read.len(),)*
+                $($number,)*
+                $($lent.as_mut_ptr(), $lent.len(),)*
+                $($result,)*
+            )
+        }
+    };
+}
+
+/// The engine.
+pub struct Ewerflint;
+
+impl FixedCalls for Ewerflint {
+    fn evaluate(
+        &self,
+        alphabet: &[u8],
+        automaton: &[u8],
+        form: &[u8],
+        relations: &mut [u64],
+        mask: &mut u8,
+    ) -> u8 {
+        call!(ewf_evaluate(alphabet, automaton, form; ; relations; mask))
+    }
+
+    fn unfold(
+        &self,
+        alphabet: &[u8],
+        form: &[u8],
+        counts: &mut [u64],
+        tree: &mut [u8],
+        length: &mut usize,
+    ) -> u8 {
+        call!(ewf_unfold(alphabet, form; ; counts, tree; length))
+    }
+
+    fn size(&self, alphabet: &[u8], form: &[u8], counts: &mut [u64], size: &mut u64) -> u8 {
+        call!(ewf_size(alphabet, form; ; counts; size))
+    }
+
+    fn label(
+        &self,
+        alphabet: &[u8],
+        form: &[u8],
+        position: u64,
+        counts: &mut [u64],
+        terminal: &mut u8,
+    ) -> u8 {
+        call!(ewf_label(alphabet, form; position; counts; terminal))
+    }
+
+    fn read_rule(&self, alphabet: &[u8], form: &[u8], number: usize, rule: &mut [u16; 7]) -> u8 {
+        call!(ewf_read_rule(alphabet, form; number; rule; ))
+    }
+
+    fn walk(
+        &self,
+        alphabet: &[u8],
+        automaton: &[u8],
+        tree: &[u8],
+        masks: &mut [u8],
+        mask: &mut u8,
+    ) -> u8 {
+        call!(ewf_walk(alphabet, automaton, tree; ; masks; mask))
+    }
+
+    fn wrap(
+        &self,
+        alphabet: &[u8],
+        tree: &[u8],
+        automaton: &[u8],
+        sheet: &mut [u8],
+        length: &mut usize,
+    ) -> u8 {
+        call!(ewf_wrap(alphabet, tree, automaton; ; sheet; length))
+    }
+}
+
+impl Engine for Ewerflint {
+    fn make_form(&self, sheet: &[u8], form: &mut [u8], written: &mut usize) -> u8 {
+        call!(ewf_make_form(sheet; ; form; written))
+    }
+
+    fn mark(
+        &self,
+        sheet: &[u8],
+        form: &mut [u8],
+        relations: &mut [u64],
+        tally: &mut [u32; 3],
+        verdict: &mut u8,
+        mask: &mut u8,
+    ) -> u8 {
+        call!(ewf_mark(sheet; ; form, relations, tally; verdict, mask))
+    }
+}

@@ -1,0 +1,14 @@
+//! Inputs to put through the calls: lawful ones of every shape, and damaged ones.
+
+pub mod alphabets;
+pub mod automata;
+pub mod bytes;
+pub mod damage;
+pub mod form_damage;
+pub mod forms;
+pub mod plan;
+pub mod random;
+pub mod right_side;
+pub mod shapes;
+pub mod sheets;
+pub mod trees;

@@ -1,0 +1,15 @@
+//! Puts generated inputs through an engine's calls and compares with the reference.
+
+pub mod case;
+pub mod checker;
+pub mod difference;
+pub mod form_calls;
+pub mod histogram;
+pub mod lending;
+pub mod making;
+pub mod marking;
+pub mod named;
+pub mod request;
+pub mod run;
+pub mod sheet_calls;
+pub mod tree_calls;

@@ -1,0 +1,95 @@
+//! A sheet put through the calls.
+
+use super::checker::Checker;
+use super::difference::{Checked, Difference};
+use super::lending::{Lent, around, enough};
+use crate::generate::form_damage;
+use crate::generate::random::Random;
+use crate::hex::hex;
+use crate::reference::facts::Facts;
+use crate::refusal::Answer;
+
+impl Checker<'_> {
+    pub fn sheet(&mut self, random: &mut Random, sheet: &[u8]) -> Checked<()> {
+        let facts = Facts::of(sheet);
+        let length = match &facts {
+            Ok(known) => around(random, known.form_need()),
+            // Too short a slice must not be told before 1 to 16.
+            Err(_) => *random.pick(&[0, 3, 100, 24_580]),
+        };
+        self.make_form(sheet, &facts, &Lent::new(random, length, 0))?;
+        if let Ok(known) = &facts {
+            let form = self.form_of(random, sheet, &facts, known)?;
+            self.follow(random, known, &form)?;
+        }
+        self.markings(random, sheet, &facts)
+    }
+
+    /// The form made of a lawful sheet, twice: what the slice held before must not matter.
+    fn form_of(
+        &mut self,
+        random: &mut Random,
+        sheet: &[u8],
+        facts: &Answer<Facts>,
+        known: &Facts,
+    ) -> Checked<Vec<u8>> {
+        let length = enough(random, known.form_need());
+        let first = self.make_form(sheet, facts, &Lent::new(random, length, 0))?;
+        let length = enough(random, known.form_need());
+        let lent = Lent::new(random, length, 0);
+        let second = self.make_form(sheet, facts, &lent)?;
+        if first != second {
+            let finding = format!("another form than before: {}", hex(&first.unwrap_or_default()));
+            return Err(Difference::told("make_form", vec![("sheet", hex(sheet))], &lent, finding));
+        }
+        Ok(first.unwrap_or_default())
+    }
+
+    /// The calls on the sheet's form and tree.
+    fn follow(&mut self, random: &mut Random, known: &Facts, form: &[u8]) -> Checked<()> {
+        let (alphabet, automaton) = (&known.sheet.alphabet_body, &known.sheet.automaton_body);
+        self.form(random, alphabet, automaton, form)?;
+        if random.one_in(3) {
+            let form = form_damage::damaged(random, form);
+            self.form(random, alphabet, automaton, &form)?;
+        }
+        if let Some(tree) = &known.tree {
+            self.tree(random, alphabet, automaton, tree)?;
+        }
+        Ok(())
+    }
+
+    /// Markings with slices that suffice, with slices around the limits, and with tallies that
+    /// are full or nearly so.
+    fn markings(
+        &mut self,
+        random: &mut Random,
+        sheet: &[u8],
+        facts: &Answer<Facts>,
+    ) -> Checked<()> {
+        let (form, relations) = match facts {
+            Ok(known) => (known.form_need(), known.relations_need()),
+            Err(_) => (random.below(200), random.below(200)),
+        };
+        let lengths = [
+            [enough(random, form), enough(random, relations)],
+            [enough(random, form), around(random, relations)],
+            [around(random, form), around(random, relations)],
+        ];
+        for [bytes, numbers] in lengths {
+            let lent = Lent::new(random, bytes, numbers);
+            self.mark_next(sheet, facts, lent)?;
+        }
+        let [bytes, numbers] = *random.pick(&lengths);
+        let lent = Lent { tally: tally(random), ..Lent::new(random, bytes, numbers) };
+        self.mark(sheet, facts, &lent).map(drop)
+    }
+}
+
+fn tally(random: &mut Random) -> [u32; 3] {
+    let mut tally = [random.word(), random.word(), random.word()].map(|count| count as u32);
+    for count in &mut tally {
+        *count = *random.pick(&[*count, *count, 0, 1, u32::MAX - 1, u32::MAX]);
+    }
+    tally
+}

@@ -1,0 +1,18 @@
+//! The engine's algorithms in idiomatic Rust: what the engine is timed against, and a second
+//! implementation to try the harness on.
+
+mod alphabet;
+mod automaton;
+mod calls;
+mod counts;
+mod evaluation;
+mod form;
+mod making;
+mod marking;
+mod preorder;
+mod sheet;
+mod unfolding;
+mod walking;
+mod wrapping;
+
+pub use calls::Idiomatic;

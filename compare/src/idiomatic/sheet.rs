@@ -1,0 +1,100 @@
+//! Reading a sheet.
+
+use super::alphabet::Alphabet;
+use super::automaton::Automaton;
+use super::preorder::is_one_tree;
+use crate::refusal::{Answer, Refusal};
+
+#[derive(Clone, Copy)]
+pub struct Rule<'a> {
+    pub rank: u8,
+    pub nodes: &'a [u8],
+}
+
+pub struct Sheet<'a> {
+    pub alphabet: Alphabet<'a>,
+    pub rules: Vec<Rule<'a>>,
+    pub automaton: Automaton,
+    /// G: all right-side nodes.
+    pub nodes: usize,
+}
+
+impl<'a> Sheet<'a> {
+    pub fn read(bytes: &'a [u8]) -> Answer<Self> {
+        if !(12..=1832).contains(&bytes.len()) {
+            return Err(Refusal(1));
+        }
+        let (alphabet, rules, automaton) = bodies(bytes).ok_or(Refusal(2))?;
+        let alphabet = Alphabet::read(alphabet)?;
+        let (rules, nodes) = split(rules)?;
+        for (number, rule) in rules.iter().enumerate() {
+            check(alphabet, &rules[..number], rule)?;
+        }
+        if rules.last().is_none_or(|start| start.rank != 0) {
+            return Err(Refusal(13));
+        }
+        let automaton = Automaton::read(alphabet, automaton)?;
+        Ok(Sheet { alphabet, rules, automaton, nodes })
+    }
+}
+
+fn bodies(bytes: &[u8]) -> Option<(&[u8], &[u8], &[u8])> {
+    let (contents, rest) = bytes.split_first_chunk::<12>()?;
+    let entry =
+        |place: usize| usize::from(u16::from_le_bytes([contents[place], contents[place + 1]]));
+    let (alphabet, rest) = rest.split_at_checked(entry(2))?;
+    let (rules, automaton) = rest.split_at_checked(entry(6))?;
+    let joined = entry(0) == 12
+        && entry(4) == 12 + alphabet.len()
+        && entry(8) == 12 + alphabet.len() + rules.len()
+        && entry(10) == automaton.len();
+    joined.then_some((alphabet, rules, automaton))
+}
+
+/// The rules and the number of their nodes: refusals 5 to 7.
+fn split(mut rest: &[u8]) -> Answer<(Vec<Rule<'_>>, usize)> {
+    let mut rules = Vec::new();
+    while let [rank, count, behind @ ..] = rest {
+        let (nodes, next) = behind.split_at_checked(usize::from(*count)).ok_or(Refusal(5))?;
+        rules.push(Rule { rank: *rank, nodes });
+        rest = next;
+    }
+    if rules.is_empty() || !rest.is_empty() {
+        return Err(Refusal(5));
+    }
+    let nodes = rules.iter().map(|rule| rule.nodes.len()).sum();
+    match (rules.len(), nodes) {
+        (65.., _) => Err(Refusal(6)),
+        (_, 129..) => Err(Refusal(7)),
+        _ => Ok((rules, nodes)),
+    }
+}
+
+/// Refusals 8 to 12.
+fn check(alphabet: Alphabet, lower: &[Rule], rule: &Rule) -> Answer<()> {
+    if rule.rank > 4 {
+        return Err(Refusal(8));
+    }
+    let rank = |node: u8| match node {
+        0x00..=0x1F => alphabet.rank(node),
+        0x40..=0x7F => lower.get(usize::from(node - 0x40)).map(|called| usize::from(called.rank)),
+        _ => (0x80..0x80 + rule.rank).contains(&node).then_some(0),
+    };
+    if rule.nodes.iter().any(|&node| rank(node).is_none()) {
+        return Err(Refusal(9));
+    }
+    if !is_one_tree(rule.nodes.iter().filter_map(|&node| rank(node))) {
+        return Err(Refusal(10));
+    }
+    let mut parameters = [0; 4];
+    for node in rule.nodes.iter().filter(|&&node| node >= 0x80) {
+        parameters[usize::from(node - 0x80)] += 1;
+    }
+    if parameters[..usize::from(rule.rank)].iter().any(|&times| times != 1) {
+        return Err(Refusal(11));
+    }
+    if matches!(rule.nodes, [0x80..=0x83]) {
+        return Err(Refusal(12));
+    }
+    Ok(())
+}

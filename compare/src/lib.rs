@@ -1,0 +1,16 @@
+//! A comparison of the engine with an implementation written from document 01 alone.
+
+#![deny(unsafe_code)]
+
+pub mod bench;
+pub mod calls;
+#[cfg(feature = "engine")]
+#[allow(unsafe_code)]
+pub mod engine;
+pub mod examples;
+pub mod generate;
+pub mod harness;
+pub mod hex;
+pub mod idiomatic;
+pub mod reference;
+pub mod refusal;

@@ -1,0 +1,62 @@
+//! Form making: what it refuses, and what must hold of the form it makes. Which form that is, is
+//! free.
+
+use super::alphabet::Alphabet;
+use super::counts;
+use super::facts::Facts;
+use super::form::Form;
+use super::label;
+use super::relations;
+use super::unfolding;
+use crate::refusal::{Answer, Refusal};
+
+/// The facts by which a form is made in a slice of this length: refusals 1 to 17.
+pub fn allowed(facts: &Answer<Facts>, form_length: usize) -> Answer<&Facts> {
+    let facts = facts.as_ref().map_err(|refusal| *refusal)?;
+    if form_length < facts.form_need() {
+        return Err(Refusal(17));
+    }
+    Ok(facts)
+}
+
+/// Whether the bytes are a form that may be made of the sheet, and what is wrong if not.
+pub fn check(facts: &Facts, bytes: &[u8]) -> Result<(), String> {
+    let form = Alphabet::read(&facts.sheet.alphabet_body)
+        .and_then(|alphabet| Form::read(&alphabet, bytes))
+        .map_err(|_| "the form is not valid")?;
+    check_bounds(facts, &form)?;
+    if unfolding::fingerprint(&form) != facts.whole {
+        return Err("the form derives another tree".to_string());
+    }
+    if facts.tree.as_ref().is_some_and(|tree| *tree != unfolding::preorder(&form)) {
+        return Err("the form derives another small tree".to_string());
+    }
+    check_labels(facts, &form)?;
+    let mask = relations::of(&facts.sheet.automaton, &form)[form.start];
+    if mask != u64::from(facts.mask) {
+        return Err(format!("the form's mask is {mask}, the sheet's {}", facts.mask));
+    }
+    Ok(())
+}
+
+fn check_bounds(facts: &Facts, form: &Form) -> Result<(), String> {
+    let count = form.rules.len();
+    for bound in [16 * facts.sheet.node_count(), facts.sheet.rule_bound()] {
+        if count > bound {
+            return Err(format!("{count} rules, but {bound} are the most"));
+        }
+    }
+    Ok(())
+}
+
+/// The labels that were found straight from the grammar.
+fn check_labels(facts: &Facts, form: &Form) -> Result<(), String> {
+    let counts = counts::of(form);
+    for &(position, wanted) in &facts.labels {
+        let got = label::at(form, &counts, position);
+        if wanted != got {
+            return Err(format!("label at {position}: expected {wanted}, the form has {got}"));
+        }
+    }
+    Ok(())
+}

@@ -1,0 +1,24 @@
+//! Document 01 in the plainest way: everything is read into trees and lists, and each meaning is
+//! worked out as the document words it. Speed is no aim here.
+
+pub mod alphabet;
+pub mod automaton;
+pub mod calls;
+pub mod counts;
+pub mod derivation;
+pub mod facts;
+pub mod fingerprint;
+pub mod fixed_calls;
+pub mod form;
+pub mod label;
+pub mod making;
+pub mod marking;
+pub mod profile;
+pub mod program;
+pub mod relations;
+pub mod rules;
+pub mod sheet;
+pub mod term;
+pub mod theorem;
+pub mod tree;
+pub mod unfolding;

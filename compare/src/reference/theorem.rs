@@ -1,0 +1,59 @@
+//! The mask straight from the grammar: source document 003, Theorem 1. For each rule and each
+//! choice of states at its parameters, the states in which a run may end at its root.
+
+use super::automaton::{Automaton, has};
+use super::rules::Rule;
+use super::term::Term;
+
+/// The sets of root states of one rule, for the tuples of parameter states counted with the
+/// first parameter's state as the lowest digit.
+type Table = Vec<u8>;
+
+/// The mask of the sheet's tree.
+pub fn mask(automaton: &Automaton, rules: &[Rule]) -> u8 {
+    let mut tables: Vec<Table> = Vec::new();
+    for rule in rules {
+        let table = table(automaton, &tables, rule);
+        tables.push(table);
+    }
+    tables.last().expect("a sheet has a rule")[0]
+}
+
+fn table(automaton: &Automaton, tables: &[Table], rule: &Rule) -> Table {
+    let states = usize::from(automaton.states);
+    let tuples = states.pow(rule.rank as u32);
+    let entry = |tuple: usize| {
+        let digit = |place: usize| (tuple / states.pow(place as u32) % states) as u8;
+        let entered: Vec<u8> = (0..rule.rank).map(digit).collect();
+        root_states(automaton, tables, &rule.right, &entered)
+    };
+    (0..tuples).map(entry).collect()
+}
+
+/// The states a run may give the term's root when it enters the parameters in these states.
+fn root_states(automaton: &Automaton, tables: &[Table], term: &Term, entered: &[u8]) -> u8 {
+    let of_child = |child: &Term| root_states(automaton, tables, child, entered);
+    match term {
+        Term::Parameter(parameter) => 1 << entered[*parameter],
+        Term::Terminal(terminal, children) => {
+            let sets: Vec<u8> = children.iter().map(of_child).collect();
+            automaton.step(*terminal, &sets)
+        }
+        Term::Call(rule, children) => {
+            let sets: Vec<u8> = children.iter().map(of_child).collect();
+            union(&tables[*rule], usize::from(automaton.states), &sets)
+        }
+    }
+}
+
+/// The union of the table's entries over all tuples with each state in its set.
+fn union(table: &[u8], states: usize, sets: &[u8]) -> u8 {
+    let Some((last, others)) = sets.split_last() else {
+        return table[0];
+    };
+    let part = table.len() / states;
+    (0..states)
+        .filter(|&state| has(*last, state as u8))
+        .map(|state| union(&table[state * part..(state + 1) * part], states, others))
+        .fold(0, |all, some| all | some)
+}

@@ -1,0 +1,22 @@
+//! Refusals: the numbers of document 01's table.
+
+/// A refusal's number.
+#[derive(Clone, Copy, Debug, PartialEq, Eq)]
+pub struct Refusal(pub u8);
+
+/// What a call answers, or the refusal it gives.
+pub type Answer<T> = Result<T, Refusal>;
+
+/// The highest number in the table.
+pub const LAST: u8 = 25;
+
+/// Puts an answer through a pointer as the C interface does: a refusal leaves the place alone.
+pub fn settle<T>(answer: Answer<T>, place: &mut T) -> u8 {
+    match answer {
+        Ok(value) => {
+            *place = value;
+            0
+        }
+        Err(Refusal(number)) => number,
+    }
+}

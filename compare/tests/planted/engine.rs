@@ -1,0 +1,346 @@
+//! An engine with one fault.
+
+use compare::calls::{Engine, FixedCalls};
+use compare::idiomatic::Idiomatic;
+use std::cell::RefCell;
+
+#[derive(Clone, Copy, Debug, PartialEq)]
+pub enum Fault {
+    OldForm,
+    ConstantForm,
+    FormWritesPast,
+    FormFollowsOldBytes,
+    FormTooLarge,
+    FormAsksOneMore,
+    ParametersByAppearance,
+    AutomatonBeforeRules,
+    RanksBeforeNodes,
+    ShortBeforeSheet,
+    ConstantMask,
+    WrongComposition,
+    RelationsPastCleared,
+    FormBeforeAutomaton,
+    CountsWrittenOnLonger,
+    LongerSaidOfWhatFits,
+    OverTooSoon,
+    LastPositionRefused,
+    TerminalWrittenOnRefusal,
+    RuleReadPastEnd,
+    WalkWritesRootOnly,
+    WalkTakesEmpty,
+    WrapChecksAutomatonFirst,
+    RefuseAll,
+    DeclineAll,
+    TallyOnce,
+    TurnedAwayNotCounted,
+    ShortCounted,
+    FullLooksAtAcceptedOnly,
+    FullAfterSheet,
+    RelationsForgotten,
+}
+
+pub struct Planted {
+    fault: Fault,
+    old_form: RefCell<Option<Vec<u8>>>,
+}
+
+impl Planted {
+    pub fn new(fault: Fault) -> Planted {
+        Planted { fault, old_form: RefCell::new(None) }
+    }
+
+    fn has(&self, fault: Fault) -> bool {
+        self.fault == fault
+    }
+
+    /// The sheet as this engine takes it; a damaged one is refused as it is.
+    fn as_read(&self, sheet: &[u8]) -> Vec<u8> {
+        let lawful = || Idiomatic.make_form(sheet, &mut [0; 24_580], &mut 0) == 0;
+        if self.has(Fault::ParametersByAppearance) && lawful() {
+            return by_appearance(sheet);
+        }
+        sheet.to_vec()
+    }
+
+    /// The refusal that a wrong order of the checks gives.
+    fn other_order(&self, sheet: &[u8], code: u8) -> u8 {
+        if !(5..=13).contains(&code) {
+            return code;
+        }
+        let [alphabet, rules, automaton] = bodies(sheet);
+        let of_automaton = Idiomatic.walk(alphabet, automaton, &[], &mut [], &mut 0);
+        if self.has(Fault::AutomatonBeforeRules) && (14..=16).contains(&of_automaton) {
+            return of_automaton;
+        }
+        if self.has(Fault::RanksBeforeNodes) && (9..=12).contains(&code) && rank_over_4(rules) {
+            return 8;
+        }
+        code
+    }
+
+    /// Spoils the verdict and the tally of a marking.
+    fn spoil_verdict(&self, code: u8, before: [u32; 3], tally: &mut [u32; 3], verdict: &mut u8) {
+        match (self.fault, code) {
+            (Fault::DeclineAll, 0) => {
+                *verdict = 0;
+                *tally = [before[0], before[1] + 1, before[2]];
+            }
+            (Fault::TallyOnce, _) if before != [0; 3] => *tally = before,
+            (Fault::TurnedAwayNotCounted, 1..=16) => *tally = before,
+            (Fault::ShortCounted, 17 | 19) => tally[2] += 1,
+            _ => {}
+        }
+    }
+
+    /// Spoils a form that was made rightly.
+    fn spoil_form(&self, first: u8, form: &mut [u8], written: &mut usize) {
+        match self.fault {
+            Fault::OldForm => {
+                let mut old = self.old_form.borrow_mut();
+                let old = old.get_or_insert_with(|| form[..*written].to_vec());
+                if old.len() <= form.len() {
+                    form[..old.len()].copy_from_slice(old);
+                    *written = old.len();
+                }
+            }
+            Fault::ConstantForm => {
+                form[..4].copy_from_slice(&[1, 0, 0, 0]);
+                form[4..8].copy_from_slice(&[0, 0, 0, 0]);
+                form[8..16].fill(0xFF);
+                *written = 16;
+            }
+            Fault::FormWritesPast if *written < form.len() => form[*written] ^= 1,
+            Fault::FormFollowsOldBytes if first == 0 => pad(form, written, 1),
+            Fault::FormTooLarge => {
+                let spare = (form.len() - *written) / 12;
+                pad(form, written, spare);
+            }
+            _ => {}
+        }
+    }
+}
+
+/// The bodies of a sheet whose contents join.
+fn bodies(sheet: &[u8]) -> [&[u8]; 3] {
+    [0, 4, 8].map(|entry| {
+        let number = |at: usize| usize::from(sheet[at]) + 256 * usize::from(sheet[at + 1]);
+        &sheet[number(entry)..number(entry) + number(entry + 2)]
+    })
+}
+
+fn rank_over_4(mut rules: &[u8]) -> bool {
+    while let [rank, count, nodes @ ..] = rules {
+        if *rank > 4 {
+            return true;
+        }
+        rules = &nodes[usize::from(*count)..];
+    }
+    false
+}
+
+/// Repeats the first rule at the form's end so many times, where there is room.
+fn pad(form: &mut [u8], written: &mut usize, times: usize) {
+    for _ in 0..times {
+        if *written + 12 <= form.len() {
+            form.copy_within(4..16, *written);
+            *written += 12;
+        }
+    }
+    let count = ((*written - 4) / 12) as u16;
+    form[..2].copy_from_slice(&count.to_le_bytes());
+}
+
+/// The sheet with each rule's parameters numbered in the order they appear.
+fn by_appearance(sheet: &[u8]) -> Vec<u8> {
+    let mut sheet = sheet.to_vec();
+    let mut at = usize::from(sheet[4]) + 256 * usize::from(sheet[5]);
+    let end = at + usize::from(sheet[6]) + 256 * usize::from(sheet[7]);
+    while at < end {
+        let next = at + 2 + usize::from(sheet[at + 1]);
+        let parameters = sheet[at + 2..next].iter_mut().filter(|node| **node >= 0x80);
+        for (number, node) in parameters.enumerate() {
+            *node = 0x80 + number as u8;
+        }
+        at = next;
+    }
+    sheet
+}
+
+/// The form with the slots of each rule of kind 3 exchanged.
+fn reversed(form: &[u8]) -> Vec<u8> {
+    let mut form = form.to_vec();
+    for rule in form.get_mut(4..).unwrap_or_default().chunks_exact_mut(12) {
+        if rule[0] == 3 {
+            rule[4..8].rotate_left(2);
+        }
+    }
+    form
+}
+
+impl FixedCalls for Planted {
+    fn evaluate(
+        &self,
+        alphabet: &[u8],
+        automaton: &[u8],
+        form: &[u8],
+        relations: &mut [u64],
+        mask: &mut u8,
+    ) -> u8 {
+        let swapped = reversed(form);
+        let form = if self.has(Fault::WrongComposition) { &swapped } else { form };
+        let mut counts = vec![0; form.len()];
+        if self.has(Fault::FormBeforeAutomaton)
+            && Idiomatic.size(alphabet, form, &mut counts, &mut 0) == 18
+        {
+            return 18;
+        }
+        let code = Idiomatic.evaluate(alphabet, automaton, form, relations, mask);
+        if code == 0 && self.has(Fault::ConstantMask) {
+            *mask = 1;
+        }
+        if code == 0 && self.has(Fault::RelationsPastCleared) {
+            relations[(form.len() - 4) / 12..].fill(0);
+        }
+        code
+    }
+
+    fn unfold(
+        &self,
+        alphabet: &[u8],
+        form: &[u8],
+        counts: &mut [u64],
+        tree: &mut [u8],
+        length: &mut usize,
+    ) -> u8 {
+        if self.has(Fault::LongerSaidOfWhatFits) && !tree.is_empty() {
+            let shorter = tree.len() - 1;
+            return Idiomatic.unfold(alphabet, form, counts, &mut tree[..shorter], length);
+        }
+        let code = Idiomatic.unfold(alphabet, form, counts, tree, length);
+        if code == 20 && self.has(Fault::CountsWrittenOnLonger) {
+            Idiomatic.size(alphabet, form, counts, &mut 0);
+        }
+        code
+    }
+
+    fn size(&self, alphabet: &[u8], form: &[u8], counts: &mut [u64], size: &mut u64) -> u8 {
+        let code = Idiomatic.size(alphabet, form, counts, size);
+        if code == 0 && self.has(Fault::OverTooSoon) && *size >= u64::MAX - 1 {
+            *size = u64::MAX;
+        }
+        code
+    }
+
+    fn label(
+        &self,
+        alphabet: &[u8],
+        form: &[u8],
+        position: u64,
+        counts: &mut [u64],
+        terminal: &mut u8,
+    ) -> u8 {
+        if self.has(Fault::LastPositionRefused) && position == u64::MAX - 1 {
+            return Idiomatic.label(alphabet, form, u64::MAX, counts, terminal);
+        }
+        let code = Idiomatic.label(alphabet, form, position, counts, terminal);
+        if code != 0 && self.has(Fault::TerminalWrittenOnRefusal) {
+            *terminal = 0;
+        }
+        code
+    }
+
+    fn read_rule(&self, alphabet: &[u8], form: &[u8], number: usize, rule: &mut [u16; 7]) -> u8 {
+        let code = Idiomatic.read_rule(alphabet, form, number, rule);
+        if code == 21 && self.has(Fault::RuleReadPastEnd) { 0 } else { code }
+    }
+
+    fn walk(
+        &self,
+        alphabet: &[u8],
+        automaton: &[u8],
+        tree: &[u8],
+        masks: &mut [u8],
+        mask: &mut u8,
+    ) -> u8 {
+        let kept = masks.to_vec();
+        let code = Idiomatic.walk(alphabet, automaton, tree, masks, mask);
+        if code == 0 && self.has(Fault::WalkWritesRootOnly) {
+            masks[1..].copy_from_slice(&kept[1..]);
+        }
+        if code == 23 && tree.is_empty() && self.has(Fault::WalkTakesEmpty) { 0 } else { code }
+    }
+
+    fn wrap(
+        &self,
+        alphabet: &[u8],
+        tree: &[u8],
+        automaton: &[u8],
+        sheet: &mut [u8],
+        length: &mut usize,
+    ) -> u8 {
+        if self.has(Fault::WrapChecksAutomatonFirst) {
+            let code = Idiomatic.walk(alphabet, automaton, &[], &mut [], &mut 0);
+            if (14..=16).contains(&code) {
+                return code;
+            }
+        }
+        Idiomatic.wrap(alphabet, tree, automaton, sheet, length)
+    }
+}
+
+impl Engine for Planted {
+    fn make_form(&self, sheet: &[u8], form: &mut [u8], written: &mut usize) -> u8 {
+        let first = form.first().copied().unwrap_or(0);
+        if self.has(Fault::FormAsksOneMore) && !form.is_empty() {
+            let shorter = form.len() - 1;
+            return Idiomatic.make_form(sheet, &mut form[..shorter], written);
+        }
+        if self.has(Fault::ShortBeforeSheet) && form.len() < 16 {
+            return 17;
+        }
+        let code = Idiomatic.make_form(&self.as_read(sheet), form, written);
+        let code = self.other_order(sheet, code);
+        if code == 0 {
+            self.spoil_form(first, form, written);
+        }
+        code
+    }
+
+    fn mark(
+        &self,
+        sheet: &[u8],
+        form: &mut [u8],
+        relations: &mut [u64],
+        tally: &mut [u32; 3],
+        verdict: &mut u8,
+        mask: &mut u8,
+    ) -> u8 {
+        let (before, kept) = (*tally, relations.to_vec());
+        let first = form.first().copied().unwrap_or(0);
+        if self.has(Fault::RefuseAll) {
+            tally[2] = tally[2].saturating_add(1);
+            return 1;
+        }
+        if self.has(Fault::FullLooksAtAcceptedOnly) && tally[0] != u32::MAX {
+            *tally = tally.map(|count| count.min(u32::MAX - 1));
+        }
+        if self.has(Fault::FullAfterSheet) && tally.contains(&u32::MAX) {
+            let code = Idiomatic.make_form(sheet, &mut [0; 24_580], &mut 0);
+            return if code == 0 { 25 } else { code };
+        }
+        let sheet = self.as_read(sheet);
+        let code = Idiomatic.mark(&sheet, form, relations, tally, verdict, mask);
+        if code == 0 {
+            // The spoiled form and its relations, as the two calls leave them.
+            let mut written = 4 + 12 * (usize::from(form[0]) + 256 * usize::from(form[1]));
+            self.spoil_form(first, form, &mut written);
+            let [alphabet, _, automaton] = bodies(&sheet);
+            Idiomatic.evaluate(alphabet, automaton, &form[..written], relations, &mut 0);
+        }
+        if code == 0 && self.has(Fault::RelationsForgotten) {
+            relations.copy_from_slice(&kept);
+        }
+        self.spoil_verdict(code, before, tally, verdict);
+        code
+    }
+}

@@ -1,0 +1,50 @@
+//! The harness finds planted faults: each engine here is right but for one thing.
+
+mod engine;
+
+use compare::harness::run::run_generated;
+use engine::{Fault, Planted};
+
+/// Each fault and the call whose difference tells of it.
+const FAULTS: [(Fault, &str); 31] = [
+    (Fault::OldForm, "make_form"),
+    (Fault::ConstantForm, "make_form"),
+    (Fault::FormWritesPast, "make_form"),
+    (Fault::FormFollowsOldBytes, "make_form"),
+    (Fault::FormTooLarge, "make_form"),
+    (Fault::FormAsksOneMore, "make_form"),
+    (Fault::ParametersByAppearance, "make_form"),
+    (Fault::AutomatonBeforeRules, "make_form"),
+    (Fault::RanksBeforeNodes, "make_form"),
+    (Fault::ShortBeforeSheet, "make_form"),
+    (Fault::ConstantMask, "evaluate"),
+    (Fault::WrongComposition, "evaluate"),
+    (Fault::RelationsPastCleared, "evaluate"),
+    (Fault::FormBeforeAutomaton, "evaluate"),
+    (Fault::CountsWrittenOnLonger, "unfold"),
+    (Fault::LongerSaidOfWhatFits, "unfold"),
+    (Fault::OverTooSoon, "size"),
+    (Fault::LastPositionRefused, "label"),
+    (Fault::TerminalWrittenOnRefusal, "label"),
+    (Fault::RuleReadPastEnd, "read_rule"),
+    (Fault::WalkWritesRootOnly, "walk"),
+    (Fault::WalkTakesEmpty, "walk"),
+    (Fault::WrapChecksAutomatonFirst, "wrap"),
+    (Fault::RefuseAll, "mark"),
+    (Fault::DeclineAll, "mark"),
+    (Fault::TallyOnce, "mark"),
+    (Fault::TurnedAwayNotCounted, "mark"),
+    (Fault::ShortCounted, "mark"),
+    (Fault::FullLooksAtAcceptedOnly, "mark"),
+    (Fault::FullAfterSheet, "mark"),
+    (Fault::RelationsForgotten, "mark"),
+];
+
+#[test]
+fn every_planted_fault_is_found() {
+    for (fault, call) in FAULTS {
+        let failure = run_generated(&Planted::new(fault), 4000, 5).err();
+        let failure = failure.unwrap_or_else(|| panic!("{fault:?} was not found"));
+        assert_eq!(failure.difference.call(), call, "{fault:?}");
+    }
+}
