@@ -21,6 +21,7 @@ unfolding any
 none-full = refl
 
 module _ (t : Tally) where
+  -- the counts one by one
   pub full-accepted : t .accepted ≡ largest → true ≡ isFull t
   unfolding any
   full-accepted e = rw (eq-eqb (t .accepted) largest e)

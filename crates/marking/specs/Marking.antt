@@ -46,7 +46,7 @@ abbrev pub FormLeft : ℕ → List ℕ → ℕ → List ℕ → List ℕ → Typ
 FormLeft zero sheet written exit entry = FormWritten (alphabetOf sheet) (rulesOf sheet) written exit entry
 FormLeft (suc n) sheet written exit entry = exit ≡ entry
 
--- both slices after marking: as form making and evaluation leave them (01 Size, label, wrap, tally)
+-- both slices after marking: as form making, which writes so many bytes, and evaluation of those bytes leave them (01 Size, label, wrap, tally)
 pub record SlicesLeft (refusal : ℕ) (sheet form′ form relations′ relations : List ℕ) : Type 0 where
   pub written : ℕ
   pub formed : FormLeft refusal sheet written form′ form

@@ -79,7 +79,7 @@ fn mark_read(sheet: &[u8], layout: Layout, form: &mut [u8], relations: &mut [u64
     verdict(&sheet[automaton..], mask)
 }
 
-// Marks a sheet where the tally can move on: refused by 1 to 16 for the sheet, 17 for the form's slice, 19 for the slice of numbers.
+// Marks a sheet with no look at the tally.
 fn mark_sheet(sheet: &[u8], form: &mut [u8], relations: &mut [u64]) -> Mark
     ensures { λ r. ⌜ r ≡ markOf [] (now (sheet .entry)) (length (now (form .entry))) (length (now (relations .entry))) ⌝ }
     ensures { λ _. ⌜ SlicesLeft (markingRefusal [] (now (sheet .entry)) (length (now (form .entry))) (length (now (relations .entry)))) (now (sheet .entry)) (now (form .exit)) (now (form .entry)) (now (relations .exit)) (now (relations .entry)) ⌝ }
@@ -99,7 +99,8 @@ fn mark_sheet(sheet: &[u8], form: &mut [u8], relations: &mut [u64]) -> Mark
     }
 }
 
-// Marks a sheet and counts the answer: refused by 25 where some count can not move on, then as above. The slices end as form making and evaluation leave them.
+// Marks a sheet and counts the answer: refused by 25 where some count can not move on, then by 1 to 16 for the sheet, 17 for the form's slice, 19 for the slice of numbers.
+// The slices end as form making and evaluation leave them.
 pub fn mark(sheet: &[u8], form: &mut [u8], relations: &mut [u64], tally: Tally) -> Marking
     ensures answer { λ r. ⌜ r .mark ≡ marking tally (now (sheet .entry)) (length (now (form .entry))) (length (now (relations .entry))) ⌝ }
     ensures tally { λ r. ⌜ r .tally ≡ counted (r .mark) tally ⌝ }

@@ -1,9 +1,9 @@
 -- `marking::mark::count` meets its contract: every count can move on, so the step that fits the answer is not refused.
 use mathlib.Core.Logic.{⊎-elim}
 use borrow.Author.Needs.{needs}
-use borrow.Author.Tests.{lt-ltb, le-ltb}
+use borrow.Author.Tests.{ltb-true, ltb-false}
 use Rattle.marking.proofs.Full.{lands}
-use Rattle.marking.proofs.Counting.{refusal-uncounted, refusal-counted, acceptance-counted, decline-counted}
+use Rattle.marking.proofs.Counting.{below, above, between, refusal-uncounted, refusal-counted, acceptance-counted, decline-counted}
 use Rattle.marking.proofs.mark.count.Statement.{statement}
 use Rattle.marking.proofs.mark.count.Tie as tie
 
@@ -11,7 +11,9 @@ enum-known-mark : tie.Need-enum-known-mark
 enum-known-mark c = search needs
 
 returns : tie.Need-returns
-returns c = refusal-uncounted _ (c .before .before .mark .given .1) (⊎-elim (λ w. rw (lt-ltb _ _ (w .taken))) (λ w. rw (le-ltb _ _ (w .0 .left), w .1 .taken)) (c .if1 .came))
+returns c =
+    refusal-uncounted _ (c .before .before .mark .given .1)
+    (⊎-elim (λ w. below (w .taken)) (λ w. above (w .0 .left) (ltb-true _ _ (w .1 .taken))) (c .if1 .came))
 
 turn-away-requires : tie.Need-turn-away-requires
 turn-away-requires c κs = search needs
@@ -41,7 +43,7 @@ returns-2 : tie.Need-returns-2
 returns-2 c =
     let counts = c .before .before in
     let told = counts .before .before .before in
-    refusal-counted _ (told .mark .given .1) (rw (le-ltb _ _ (counts .before .if1 .left), counts .if2 .left))
+    refusal-counted _ (told .mark .given .1) (between (counts .before .if1 .left) (ltb-false _ _ (counts .if2 .left)))
     (lands _ _ (told .before .before .pre) (c .before .turn-away .ensures) (c .landed-on .ensures))
 
 returns-3 : tie.Need-returns-3
