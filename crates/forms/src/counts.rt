@@ -22,6 +22,11 @@ pub const LARGEST: u64 = 0xFFFF_FFFF_FFFF_FFFF;
 // The most counts of a form: two for each of 2,048 rules.
 pub const MOST_COUNTS: usize = 4096;
 
+// The most rules of a small form. Its counts are worked out in a smaller array, since clearing the large one takes longer than counting.
+pub const FEW_RULES: usize = 128;
+
+pub const FEW_COUNTS: usize = 2 * FEW_RULES;
+
 // The counts of a rule.
 struct Counts {
     own: u64,

@@ -9,13 +9,15 @@ use crate::size;
 use terms::Rule;
 use terms::Terminal;
 ghost use mathlib.Core.Path.{_≡_};
+ghost use Prim.Native.Nat.{_*_, _≤_};
 ghost use lib.ListN.{length};
-ghost use Rattle.terms.specs.Calls.{labelRefusal, countsOf, lentAfter};
+ghost use Rattle.terms.specs.FormBytes.{ruleCount};
+ghost use Rattle.terms.specs.Calls.{sizeRefusal, labelRefusal, countsOf, lentAfter};
 ghost use Rattle.forms.specs.Position.{Position, symbolAt};
 ghost use Rattle.forms.specs.Answer.{labelCall};
 
 // The terminal at a position of a rule.
-pub fn label_in(alphabet: &[u8], form: &[u8], counts: &[u64], rule: Rule, position: u64) -> Terminal
+fn label_in(alphabet: &[u8], form: &[u8], counts: &[u64], rule: Rule, position: u64) -> Terminal
     requires { ⌜ Position (now alphabet) (now form) (now counts) (rule .0) position ⌝ }
     ensures { λ r. ⌜ r .0 ≡ symbolAt (now (alphabet .entry)) (now (form .entry)) (rule .0) position ⌝ }
 {
@@ -28,8 +30,29 @@ pub fn label_in(alphabet: &[u8], form: &[u8], counts: &[u64], rule: Rule, positi
     }
 }
 
-// The terminal at a position, the root being 0. A position past the end is refused when the counts are known,
+// The terminal at a position of a form that passes, with room to work out its counts. A position past the end is refused when the counts are known,
 // so these go to the slice that is lent only then: a refusal leaves it as it was.
+fn label_with(
+    alphabet: &[u8],
+    form: &[u8],
+    position: u64,
+    counts: &mut [u64],
+    known: &mut [u64],
+) -> Label
+    requires { ⌜ (sizeRefusal (now alphabet) (now form) (length (now counts)) ≡ 0) × (2 * ruleCount (now form) ≤ length (now known)) ⌝ }
+    ensures { λ r. ⌜ r ≡ labelCall (now (alphabet .entry)) (now (form .entry)) position (length (now (counts .entry))) ⌝ }
+    ensures { λ r. ⌜ now (counts .exit) ≡ lentAfter (labelRefusal (now (alphabet .entry)) (now (form .entry)) position (length (now (counts .entry)))) (countsOf (now (alphabet .entry)) (now (form .entry))) (now (counts .entry)) ⌝ }
+{
+    counts::count_nodes(alphabet, form, known);
+    let start = layout::start_of(form);
+    if counts::own_of(known, start) <= position {
+        return Label::Refused(21);
+    }
+    counts::copy_counts(known, 2 * layout::rule_count(form), counts);
+    Label::At(label_in(alphabet, form, counts, start, position))
+}
+
+// The terminal at a position, the root being 0.
 pub fn label(alphabet: &[u8], form: &[u8], position: u64, counts: &mut [u64]) -> Label
     ensures { λ r. ⌜ r ≡ labelCall (now (alphabet .entry)) (now (form .entry)) position (length (now (counts .entry))) ⌝ }
     ensures { λ r. ⌜ now (counts .exit) ≡ lentAfter (labelRefusal (now (alphabet .entry)) (now (form .entry)) position (length (now (counts .entry)))) (countsOf (now (alphabet .entry)) (now (form .entry))) (now (counts .entry)) ⌝ }
@@ -38,12 +61,10 @@ pub fn label(alphabet: &[u8], form: &[u8], position: u64, counts: &mut [u64]) ->
     if refusal != 0 {
         return Label::Refused(refusal);
     }
-    let mut known = [0u64; counts::MOST_COUNTS];
-    counts::count_nodes(alphabet, form, &mut known);
-    let start = layout::start_of(form);
-    if counts::own_of(&known, start) <= position {
-        return Label::Refused(21);
+    if layout::rule_count(form) <= counts::FEW_RULES {
+        let mut known = [0u64; counts::FEW_COUNTS];
+        return label_with(alphabet, form, position, counts, &mut known);
     }
-    counts::copy_counts(&known, 2 * layout::rule_count(form), counts);
-    Label::At(label_in(alphabet, form, counts, start, position))
+    let mut known = [0u64; counts::MOST_COUNTS];
+    label_with(alphabet, form, position, counts, &mut known)
 }

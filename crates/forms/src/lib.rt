@@ -1,11 +1,11 @@
 // The calls on a one-hole form.
 pub mod answer;
 pub mod check;
-pub mod counts;
+mod counts;
 pub mod evaluate;
 pub mod label;
 pub mod layout;
-pub mod place;
+mod place;
 pub mod rule;
 pub mod size;
 pub mod unfold;

@@ -167,9 +167,12 @@ module _ (alphabet form : List ℕ) (i : ℕ) where
         }
 
     -- a rule of kind 0 or 1 has its terminal first
-    pub node-some : ruleByte form i 0 < 2 → 0 < length (symbolsBefore (value i))
-    node-some few = go (eq-or-lt-of-le few)
+    pub node-first : ruleByte form i 0 < 2 → (rest : List ℕ) × (symbolsBefore (value i) ≡ terminal ∷ rest)
+    node-first few = go (eq-or-lt-of-le few)
       where
-        go : (suc (ruleByte form i 0) ≡ 2) ⊎ (suc (ruleByte form i 0) < 2) → 0 < length (symbolsBefore (value i))
-        go (inl e) = rw (pierced-node (omega arith) .first) (omega arith)
-        go (inr h) = rw (whole-node (omega arith) .first) (omega arith)
+        go : (suc (ruleByte form i 0) ≡ 2) ⊎ (suc (ruleByte form i 0) < 2) → (rest : List ℕ) × (symbolsBefore (value i) ≡ terminal ∷ rest)
+        go (inl e) = (_, pierced-node (omega arith) .first)
+        go (inr h) = (_, whole-node (omega arith) .first)
+
+    pub node-some : ruleByte form i 0 < 2 → 0 < length (symbolsBefore (value i))
+    node-some few = let (rest, first) = node-first few in rw first (omega arith)

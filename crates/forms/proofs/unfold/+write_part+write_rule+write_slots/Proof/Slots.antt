@@ -4,7 +4,6 @@ use mathlib.Core.Path.{_≡_, refl, _∙_, ap}
 use Prim.Native.Nat.{ℕ, _+_, _-_}
 use native.Mathlib.Nat.{add-zero}
 use native.Mathlib.Omega.{arith}
-use borrow.Author.Needs.{needs}
 use lib.ListN.{length}
 use lib.Seq.{sets}
 use Rattle.terms.specs.Form.{Slots}
@@ -17,60 +16,57 @@ use Rattle.forms.proofs.Counted.{rule-there, counts-long}
 use Rattle.forms.proofs.unfold.Exact.{own-exact}
 use Rattle.forms.proofs.unfold.Slots.{SlotStep, slot-step, slot-written}
 use Rattle.forms.proofs.unfold.write_slots.Reads as write-slots
-use Rattle.forms.proofs.unfold.+write_rule+write_slots.Lts-write_slots as slots-lts
-use Rattle.forms.proofs.unfold.+write_rule+write_slots.Proof.Measure.{slots-at, slots-claims}
+use Rattle.forms.proofs.unfold.+write_part+write_rule+write_slots.Lts-write_slots as slots-lts
+use Rattle.forms.proofs.unfold.+write_part+write_rule+write_slots.Proof.Measure.{slots-at, slots-claims}
 
 abbrev pub Inv-loop : slots-lts.InvT-loop
-Inv-loop alphabet form counts from to tree₀ at i end₀ j₀ tree end j =
+Inv-loop alphabet form counts i from to tree₀ at end₀ j₀ tree end j =
     (length tree ≡ length tree₀)
     × Slots (formRules alphabet form) i (slotsFrom (slotOf form i) j to)
     × (end + length (symbolsIn alphabet form i j to) ≡ at + length (symbolsIn alphabet form i from to))
     × (sets tree end (symbolsIn alphabet form i j to) ≡ sets tree₀ at (symbolsIn alphabet form i from to))
 
 abbrev pub μ-loop : slots-lts.MeasureT-loop
-μ-loop alphabet form counts from to tree₀ at i end₀ j₀ tree end j = to - j
+μ-loop alphabet form counts i from to tree₀ at end₀ j₀ tree end j = to - j
 
 module _ (t : ℕ) where
-  pub slots-cast-i : slots-lts.Need-cast-i (slots-claims t) (slots-at t) write-slots.Post Inv-loop μ-loop
-  slots-cast-i c = search needs
-
   pub slots-loop-holds : slots-lts.Need-loop-holds (slots-claims t) (slots-at t) write-slots.Post Inv-loop μ-loop
-  slots-loop-holds c = (refl, c .before .before .before .before .before .pre .1 .1 .slots, refl, refl)
+  slots-loop-holds c = (refl, c .before .before .before .before .pre .1 .1 .slots, refl, refl)
 
   -- the rule's bytes stand in the form
   pub slots-slot-of-requires : slots-lts.Need-slot-of-requires (slots-claims t) (slots-at t) write-slots.Post Inv-loop μ-loop
   slots-slot-of-requires c κs =
-      let (known, room) = c .before .before .before .before .before .before .before .pre .1 in
+      let (known, room) = c .before .before .before .before .before .before .pre .1 in
       (rule-there known _ (room .below), omega arith)
 
   -- the slot of a turn
   slot-known : (c : slots-lts.After-slot-of (slots-claims t) (slots-at t) write-slots.Post Inv-loop μ-loop)
-      → let args = c .before .before .before .before .before .before .before .before .args in
-      SlotStep (args .alphabet .now) (args .form .now) (args .rule .0) (c .before .before .loop .j) (args .to) (c .slot-of .result .0)
+      → let args = c .before .before .before .before .before .before .before .args in
+      SlotStep (args .alphabet .now) (args .form .now) (args .i) (c .before .before .loop .j) (args .to) (c .slot-of .result .0)
   slot-known c =
-      let (known, room) = c .before .before .before .before .before .before .before .before .pre .1 in
+      let (known, room) = c .before .before .before .before .before .before .before .pre .1 in
       slot-step _ _ _ known _ (room .below) _ _ _ (c .before .loop-test .taken) (c .before .before .loop .inv .1) (c .slot-of .ensures)
 
-  pub slots-write-rule-requires : slots-lts.Need-write-rule-requires (slots-claims t) (slots-at t) write-slots.Post Inv-loop μ-loop
-  slots-write-rule-requires c κs =
+  pub slots-write-part-requires : slots-lts.Need-write-part-requires (slots-claims t) (slots-at t) write-slots.Post Inv-loop μ-loop
+  slots-write-part-requires c κs =
       let slot = slot-known (c .before) in
-      let (measure, (known, room)) = c .before .before .before .before .before .before .before .before .before .pre in
+      let (measure, (known, room)) = c .before .before .before .before .before .before .before .before .pre in
       (omega arith, (known, record { below = omega arith; shut = λ e. refl; fits = omega (arith, ap length (slot .none)) }))
 
   pub slots-own-of-requires : slots-lts.Need-own-of-requires (slots-claims t) (slots-at t) write-slots.Post Inv-loop μ-loop
   slots-own-of-requires c κs =
       let slot = slot-known (c .before .before .before .before) in
-      omega (arith, counts-long (c .before .before .before .before .before .before .before .before .before .before .before .before .pre .1 .0))
+      omega (arith, counts-long (c .before .before .before .before .before .before .before .before .before .before .before .pre .1 .0))
 
   -- the slot's count is the number of its symbols
   slot-own : (c : slots-lts.After-own-of (slots-claims t) (slots-at t) write-slots.Post Inv-loop μ-loop)
       → let turn = c .before .before .before .before .before in
-      let args = turn .before .before .before .before .before .before .before .before .args in
+      let args = turn .before .before .before .before .before .before .before .args in
       c .own-of .result ≡ length (symbolsBefore (valueIn (args .alphabet .now) (args .form .now) (turn .slot-of .result .0)))
   slot-own c =
       let turn = c .before .before .before .before .before in
       let slot = slot-known turn in
-      let start = turn .before .before .before .before .before .before .before .before in
+      let start = turn .before .before .before .before .before .before .before in
       let (known, room) = start .pre .1 in
       let none = ap length (slot .none) in
       c .own-of .ensures ∙ own-exact known _ (omega arith) (omega arith) ∙ omega arith
@@ -89,7 +85,7 @@ module _ (t : ℕ) where
       let turn = c .before .before .before .before .before in
       let slot = slot-known turn in
       let (kept, more, end, same) = turn .before .before .loop .inv in
-      let wrote = c .before .before .before .write-rule in (
+      let wrote = c .before .before .before .write-part in (
         wrote .kept .1 .1 .1 .1 .0 ∙ kept,
         slot .rest,
         omega (arith, slot-own c),
@@ -102,6 +98,6 @@ module _ (t : ℕ) where
   pub slots-returns : slots-lts.Need-returns (slots-claims t) (slots-at t) write-slots.Post Inv-loop μ-loop
   slots-returns c =
       let (kept, more, end, same) = c .before .loop .inv in
-      let args = c .before .before .before .before .before .before .before .args in
-      let none = slots-none (slotOf (args .form .now) (args .rule .0)) (c .before .loop .j) (args .to) (c .loop-test .left) in
+      let args = c .before .before .before .before .before .before .args in
+      let none = slots-none (slotOf (args .form .now) (args .i)) (c .before .loop .j) (args .to) (c .loop-test .left) in
       (rw (none, add-zero) at end, rw none at same)
