@@ -2,4 +2,5 @@ pub mod Trees
 pub mod Passed
 pub mod Noted
 pub mod Reading
+pub mod Runs
 pub mod Outcome

@@ -33,5 +33,5 @@ module _ (alphabet automaton tree entry : List ℕ) {r : ℕ} (e : r ≡ walkRef
       → Outcome (Mask (getD exit 0 0)) exit
   reads none kept is noted =
       let p = walk-passed alphabet automaton tree (length entry) (sym e ∙ none) in
-      let whole = rw (is ∙ whole-end p) at noted in
-      (answer-mask e none (whole .inside 0 (omega arith) (some-node p)), lent-written _ _ e none (noted-whole (p .fits) kept whole))
+      let whole = rw (is ∙ whole-end _ _ (p .treePasses)) at noted in
+      (answer-mask e none (whole .inside 0 (omega arith) (some-node _ _ (p .treePasses))), lent-written _ _ e none (noted-whole (p .fits) kept whole))

@@ -22,32 +22,26 @@ use Rattle.terms.proofs.Tree.Whole.{read, forest-is-tree, preorder-tree}
 use Rattle.terms.proofs.Sheet.Grammar.{one-whole}
 use Rattle.terms.proofs.Sheet.Passed.{alphabet-passed, tree-passed}
 use Rattle.terms.proofs.Form.Bytes.{rank-le}
-use Rattle.walking.specs.Walking.{treesFrom, endOf}
+use Rattle.relations.specs.Step.{Ready}
+use Rattle.walking.specs.Walking.{Checked, treesFrom, endOf}
 
 -- what the walk lets through
 pub record WalkPassed (alphabet automaton tree : List ℕ) (room : ℕ) : Type 0 where
   pub alphabetPasses : alphabetRefusal alphabet ≡ 0
   pub automatonPasses : automatonRefusal alphabet automaton ≡ 0
-  pub known : all (λ f. ltb f (length alphabet)) tree ≡ true
-  pub whole : wholes (terminalRank alphabet) tree ≡ exactly 1
+  pub treePasses : treeRefusal mostWalked alphabet tree ≡ 0
   pub fits : length tree ≤ room
 
 pub walk-passed : (alphabet automaton tree : List ℕ) (room : ℕ) → walkRefusal alphabet automaton tree room ≡ 0 → WalkPassed alphabet automaton tree room
-unfolding walkRefusal isTree
+unfolding walkRefusal
 walk-passed alphabet automaton tree room e =
     let (a, r) = none-before (alphabetRefusal alphabet) _ e in
     let (b, s) = none-before (automatonRefusal alphabet automaton) _ r in
     let (c, t) = none-before (treeRefusal mostWalked alphabet tree) _ s in
-    let one = tree-passed mostWalked alphabet tree c .one in
-    let terminals = all (λ f. ltb f (length alphabet)) tree in
-    let isWhole = isOne (wholes (terminalRank alphabet) tree) in
-    record {
-      alphabetPasses = a;
-      automatonPasses = b;
-      known = is-true terminals (both-0 terminals isWhole one);
-      whole = one-whole _ (is-true isWhole (both-1 terminals isWhole one));
-      fits = ltb-false room (length tree) (no-row 18 (ltb room (length tree)) 0 t .0);
-    }
+    record { alphabetPasses = a; automatonPasses = b; treePasses = c; fits = ltb-false room (length tree) (no-row 18 (ltb room (length tree)) 0 t .0) }
+
+pub rank-few : (alphabet : List ℕ) → alphabetRefusal alphabet ≡ 0 → (f : ℕ) → terminalRank alphabet f ≤ 4
+rank-few alphabet passes f = rank-le alphabet (alphabet-passed alphabet passes .ranks) f
 
 -- no symbols make no tree
 whole-some : (rank : ℕ → ℕ) (fs : List ℕ) → wholes rank fs ≡ exactly 1 → 0 < length fs
@@ -68,19 +62,26 @@ taken-there rank f fs some = go (wholes rank fs) refl
     go (exactly n) e = enough n e (decLe (rank f) n)
     go lacking e = absurd (some (rw e))
 
-module _ {alphabet automaton tree : List ℕ} {room : ℕ} (p : WalkPassed alphabet automaton tree room) where
-  pub rank-few : (f : ℕ) → terminalRank alphabet f ≤ 4
-  rank-few f = rank-le alphabet (alphabet-passed alphabet (p .alphabetPasses) .ranks) f
+-- a tree that passed its check
+module _ (alphabet tree : List ℕ) (passes : treeRefusal mostWalked alphabet tree ≡ 0) where
+  -- it is of terminals, and whole
+  known-whole : (all (λ f. ltb f (length alphabet)) tree ≡ true) × (wholes (terminalRank alphabet) tree ≡ exactly 1)
+  unfolding isTree
+  known-whole =
+      let one = tree-passed mostWalked alphabet tree passes .one in
+      let terminals = all (λ f. ltb f (length alphabet)) tree in
+      let isWhole = isOne (wholes (terminalRank alphabet) tree) in
+      (is-true terminals (both-0 terminals isWhole one), one-whole _ (is-true isWhole (both-1 terminals isWhole one)))
 
-  -- the tree has a node, and ends where the symbols end
+  -- it has a node, and ends where the symbols end
   pub some-node : 0 < length tree
-  some-node = whole-some (terminalRank alphabet) tree (p .whole)
+  some-node = whole-some (terminalRank alphabet) tree (known-whole .1)
 
   pub whole-end : endOf alphabet tree 0 1 ≡ length tree
   unfolding firsts preorders
   whole-end =
       let rank = terminalRank alphabet in
-      rw (forest-is-tree rank tree (p .whole), append-nil, preorder-tree rank tree (p .whole)) (omega arith)
+      rw (forest-is-tree rank tree (known-whole .1), append-nil, preorder-tree rank tree (known-whole .1)) (omega arith)
 
   module _ (at : ℕ) (there : at < length tree) where
     -- a node is a terminal
@@ -90,7 +91,7 @@ module _ {alphabet automaton tree : List ℕ} {room : ℕ} (p : WalkPassed alpha
       where
         go : (b : Bool) → ltb (getD tree at 0) (length alphabet) ≡ b → getD tree at 0 < length alphabet
         go true e = ltb-true _ _ e
-        go false e = absurd (of-true false (sym (all-part (λ f. ltb f (length alphabet)) tree at (rw (drop-cons tree at 0 there, e))) ∙ p .known))
+        go false e = absurd (of-true false (sym (all-part (λ f. ltb f (length alphabet)) tree at (rw (drop-cons tree at 0 there, e))) ∙ known-whole .0))
 
     -- and its children are there
     pub children-there : terminalRank alphabet (getD tree at 0) ≤ count (treesFrom alphabet tree (at + 1))
@@ -99,6 +100,13 @@ module _ {alphabet automaton tree : List ℕ} {room : ℕ} (p : WalkPassed alpha
         lacks : {fs : List ℕ} → drop at tree ≡ fs → wholes (terminalRank alphabet) fs ≡ lacking → ⊥
         lacks is e =
             let whole = wholes-part (terminalRank alphabet) tree at (rw is e) in
-            let one = p .whole in
+            let one = known-whole .1 in
             let z : _≡_ {A = ℕ} 0 1 = cc in
             omega arith
+
+-- the node at a position can step
+pub node-ready : {alphabet automaton links tree : List ℕ} {room : ℕ} → Checked alphabet automaton links tree room → (at : ℕ) → at < length tree
+    → Ready alphabet automaton links (getD tree at 0)
+node-ready checked at there =
+    let p = walk-passed _ _ _ _ (checked .passes) in
+    record { alphabetPasses = p .alphabetPasses; automatonPasses = p .automatonPasses; linked = checked .linked; terminal = node-known _ _ (p .treePasses) at there }

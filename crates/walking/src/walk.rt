@@ -10,10 +10,11 @@ use sheets::tree::check_tree;
 use terms::Terminal;
 ghost use mathlib.Core.Path.{_≡_};
 ghost use Prim.Native.Nat.{_≤_, _<_};
-ghost use lib.ListN.{length, take};
+ghost use lib.ListN.{length, getD, take, drop};
 ghost use Rattle.terms.specs.Tree.{count};
-ghost use Rattle.terms.specs.Calls.{lentAfter, walkRefusal, walkMasks};
-ghost use Rattle.walking.specs.Walking.{Checked, Noted, treesFrom, endOf, masksFrom, walking};
+ghost use Rattle.terms.specs.Check.{treeRefusal};
+ghost use Rattle.terms.specs.Calls.{lentAfter, mostWalked, walkRefusal, walkMask, walkMasks};
+ghost use Rattle.walking.specs.Walking.{Checked, Noted, OneChildTo, treesFrom, endOf, masksFrom, walking};
 
 // The most nodes of a tree that is walked.
 const MOST_WALKED: usize = 4096;
@@ -40,8 +41,48 @@ fn walk_refusal(alphabet: &[u8], automaton: &[u8], tree: &[u8], room: usize) -> 
     0
 }
 
+// The first node from `at` on that has not exactly one child. The tree has passed its check, so an only child is there.
+fn bottom_of(alphabet: &[u8], tree: &[u8], at: usize) -> usize
+    requires { ⌜ (treeRefusal mostWalked (now alphabet) (now tree) ≡ 0) × (at < length (now tree)) ⌝ }
+    ensures { λ r. ⌜ OneChildTo (now (alphabet .entry)) (now (tree .entry)) at r ⌝ }
+{
+    let mut bottom = at;
+    while rank_of(alphabet, Terminal(tree[bottom])) == 1 {
+        bottom += 1;
+    }
+    bottom
+}
+
+// Notes the masks of the nodes above `bottom`, back to `at`, each of which has the next one as its only child.
+fn note_up(
+    alphabet: &[u8],
+    automaton: &[u8],
+    links: &[u8; 511],
+    tree: &[u8],
+    at: usize,
+    bottom: usize,
+    masks: &mut [u8],
+)
+    requires { ⌜ Checked (now alphabet) (now automaton) (now links) (now tree) (length (now masks)) × OneChildTo (now alphabet) (now tree) at bottom × (getD (now masks) bottom 0 ≡ walkMask (now alphabet) (now automaton) (drop bottom (now tree))) ⌝ }
+    ensures { λ _. ⌜ Noted (now (alphabet .entry)) (now (automaton .entry)) (now (tree .entry)) at bottom (now (masks .entry)) (now (masks .exit)) ⌝ }
+{
+    let mut i = bottom;
+    while at < i {
+        i -= 1;
+        let child = masks[i + 1];
+        masks[i] = step_closed(
+            alphabet,
+            automaton,
+            links,
+            Terminal(tree[i]),
+            [child, 0, 0, 0],
+        );
+    }
+}
+
 // Reads the node at `at` through its children, notes its mask, and answers where its subtree ends. The tree has passed its check, so the children are there.
-// They stand behind it, so a node leaves fewer bytes to its children than it has itself, and the calls end.
+// It goes down and up a run of nodes with one child each by loops, so that only nodes with more children make the calls deeper.
+// Children stand behind their node, so a node leaves fewer bytes to its children than it has itself, and the calls end.
 fn read_node(
     alphabet: &[u8],
     automaton: &[u8],
@@ -54,7 +95,8 @@ fn read_node(
     ensures end { λ r. ⌜ r ≡ endOf (now (alphabet .entry)) (now (tree .entry)) at 1 ⌝ }
     ensures noted { λ r. ⌜ Noted (now (alphabet .entry)) (now (automaton .entry)) (now (tree .entry)) at r (now (masks .entry)) (now (masks .exit)) ⌝ }
 {
-    let terminal = Terminal(tree[at]);
+    let bottom = bottom_of(alphabet, tree, at);
+    let terminal = Terminal(tree[bottom]);
     let rank = rank_of(alphabet, terminal) as usize;
     let mut sets = [0u8; HIGHEST_RANK as usize];
     let end = read_children(
@@ -62,12 +104,13 @@ fn read_node(
         automaton,
         links,
         tree,
-        at + 1,
+        bottom + 1,
         rank,
         masks,
         &mut sets,
     );
-    masks[at] = step_closed(alphabet, automaton, links, terminal, sets);
+    masks[bottom] = step_closed(alphabet, automaton, links, terminal, sets);
+    note_up(alphabet, automaton, links, tree, at, bottom, masks);
     end
 }
 

@@ -36,6 +36,7 @@ pub +read-children+read-node-spec : {M : Type 1} → statement M
     (node-claims t)
     (node-at t)
     read-node.Post
+    (node.node-bottom-of-requires t)
     (node.node-shared-slice-read-rank t)
     (node.node-rank-of-requires t)
     (node.node-cast-rank t)
@@ -43,5 +44,6 @@ pub +read-children+read-node-spec : {M : Type 1} → statement M
     (node.node-read-children-requires t)
     (node.node-step-closed-requires t)
     (node.node-slice-write-masks t)
+    (node.node-note-up-requires t)
     (node.node-same-length t)
     (node.node-returns t)

@@ -39,13 +39,13 @@ read-node-requires : tie.Need-read-node-requires
 read-node-requires c κs =
     let linked = c .before .before in
     let passes = linked .before in
-    (record { passes = none-refused passes; linked = linked .link-transitions .ensures }, some-node (checked passes))
+    (record { passes = none-refused passes; linked = linked .link-transitions .ensures }, some-node _ _ (checked passes .treePasses))
 
 slice-read-t14 : tie.Need-slice-read-t14
 slice-read-t14 c =
     let read = c .before .before .before in
     let p = checked (read .before .before .before .before) in
-    omega (arith, read .read-node .kept .1 .1 .1 .1 .1 .0, p .fits, some-node p)
+    omega (arith, read .read-node .kept .1 .1 .1 .1 .1 .0, p .fits, some-node _ _ (p .treePasses))
 
 same-length : tie.Need-same-length
 same-length c = search needs

@@ -11,6 +11,8 @@ use Rattle.walking.proofs.walk.+read_children+read_node.Lts-read_childr
 use Rattle.walking.proofs.walk.read_node.Reads as read-node
 use Rattle.walking.proofs.walk.read_node.Kinds as read-node-kinds
 use Rattle.walking.proofs.walk.+read_children+read_node.Lts-read_node as node-lts
+use Rattle.walking.proofs.walk.bottom_of.Reads as bottom-of
+use Rattle.walking.proofs.walk.note_up.Reads as note-up
 use Rattle.relations.proofs.step.step_closed.Reads as step-closed
 use Rattle.sheets.proofs.alphabet.rank_of.Reads as rank-of
 
@@ -37,4 +39,4 @@ module _ (t : ℕ) where
   children-claims = (node-below, read-node.Post)
 
   abbrev pub node-claims : node-lts.Claims
-  node-claims = (rank-of.Asked, rank-of.Learnt, children-below, read-children.Post, step-closed.Asked, step-closed.Learnt)
+  node-claims = (bottom-of.Asked, bottom-of.Learnt, rank-of.Asked, rank-of.Learnt, children-below, read-children.Post, step-closed.Asked, step-closed.Learnt, note-up.Asked, note-up.Learnt)
