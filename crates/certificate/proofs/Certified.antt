@@ -15,13 +15,13 @@ use Rattle.terms.proofs.Demand.{making-passes, form-meets}
 use Rattle.making.specs.Making.{refusalOf, Leaves}
 use Rattle.making.specs.declared.Making.{Making}
 use Rattle.making.specs.declared.Making.the-variants as making
+use Rattle.making.proofs.Formed.{form-of}
 use Rattle.forms.specs.Evaluation.{orMask}
 use Rattle.forms.specs.declared.unfold.Unfolding.{Unfolding}
 use Rattle.forms.specs.declared.unfold.Unfolding.the-variants.{Written}
 use Rattle.walking.specs.declared.answer.Walk.the-variants.{Mask}
 use Rattle.certificate.specs.Certify.{Slices, Walked, Ran, Follows, CallsMade, Certificate}
 use Rattle.certificate.specs.declared.certify.Answers.{Answers}
-use Rattle.certificate.proofs.Form.{form-of}
 use Rattle.certificate.proofs.Unfolded.{unfolds, tree-first}
 
 module _ (sheet : List ℕ) (answers : Answers) (form : List ℕ) (lent : Slices) (form′ : List ℕ) (left : Slices) (passes : refusal sheet ≡ 0) (room : 4 + 192 * nodesOf sheet ≤ length form) where

@@ -1,4 +1,3 @@
-pub mod Form
 pub mod Unfolded
 pub mod Handed
 pub mod Sheet

@@ -18,11 +18,11 @@ use Rattle.sheets.specs.declared.wrap.Wrapping.the-variants as wrap
 use Rattle.making.specs.Making.{refusalOf, Leaves}
 use Rattle.making.specs.declared.Making.{Making}
 use Rattle.making.specs.declared.Making.the-variants as making
+use Rattle.making.proofs.Formed.{form-of}
 use Rattle.forms.specs.declared.unfold.Unfolding.the-variants.{Written}
 use Rattle.certificate.specs.Unfolded.{Unfolded}
 use Rattle.certificate.specs.Restore.{MadeFrom, UnfoldedFrom, Slices, CallsMade, TreeBack}
 use Rattle.certificate.specs.declared.restore.Restoring.{Restoring}
-use Rattle.certificate.proofs.Form.{form-of}
 use Rattle.certificate.proofs.Unfolded.{unfolds, tree-first}
 
 module _ (alphabet tree automaton : List ℕ) (r : Restoring) (lent left : Slices) (passes : wrapRefusal alphabet tree automaton (length (lent .sheet)) ≡ 0)

@@ -5,18 +5,17 @@ use mathlib.Core.List.{List, [], _∷_}
 use Prim.Native.Nat.{ℕ, zero, suc, _*_}
 use native.Mathlib.Omega.{arith}
 use borrow.Author.Tests.{le-ltb}
-use lib.ListN.{length, take, replicate, length-replicate}
+use lib.ListN.{length, replicate, length-replicate}
 use Rattle.terms.specs.Test.{any}
 use Rattle.terms.specs.Sheet.{body, alphabetOf, rulesOf, nodesOf, Verdict, accepted, declined, sheetTree, sheetMask, sheetVerdict}
 use Rattle.terms.specs.Check.{refusal}
 use Rattle.terms.specs.FormBytes.{ruleOffset}
 use Rattle.terms.specs.Count.{sizeOf, capped}
 use Rattle.terms.specs.Calls.{makingRefusal, markingRefusal}
-use Rattle.terms.specs.Demand.{FormOfSheet}
 use Rattle.terms.proofs.Test.{of-true}
 use Rattle.terms.proofs.Sheet.Grammar.{rules-passed}
 use Rattle.terms.proofs.Sheet.Passed.{sheet-passed}
-use Rattle.making.specs.Making.{FormWritten}
+use Rattle.making.proofs.Formed.{form-of}
 use Rattle.marking.specs.declared.answer.Mark.{Mark}
 use Rattle.marking.specs.declared.answer.Mark.the-variants as mark
 use Rattle.marking.specs.Marking.{orVerdict, SlicesLeft}
@@ -37,11 +36,6 @@ room-enough sheet room numbers a b = go (refusal sheet) refl
         let few = rules-passed (alphabetOf sheet) (body sheet 1) (sheet-passed sheet e .rules) .few-nodes in
         rw (e, le-ltb room (ruleOffset (16 * nodesOf sheet)) (omega arith), le-ltb numbers (16 * nodesOf sheet) (omega arith))
     go (suc n) e = rw e
-
--- what form making wrote is a form of the sheet
-form-of : (sheet : List ℕ) {n : ℕ} {exit entry : List ℕ} → FormWritten (alphabetOf sheet) (rulesOf sheet) n exit entry → FormOfSheet sheet (take n exit)
-unfolding sheetTree nodesOf
-form-of sheet w = record { valid = w .accepted; tree = w .tree; few = w .linear }
 
 -- an answer of marking as a line, with a size
 abbrev line : Mark → ℕ → Line

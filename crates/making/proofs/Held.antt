@@ -1,15 +1,15 @@
 -- Bytes that hold the rules of a form: they hold them still where the rules' bytes are kept, and one rule more behind them.
-use mathlib.Core.Path.{_≡_, refl, ap, _∙_}
+use mathlib.Core.Path.{_≡_, sym, ap, subst, _∙_}
 use mathlib.Core.List.{List, [], _∷_, _++_}
 use mathlib.Core.Logic.{_⊎_, inl, inr}
 use Prim.Native.Nat.{ℕ, _+_, _≤_, _<_}
 use native.Mathlib.Omega.{arith}
 use native.Mathlib.Nat.{eq-or-lt-of-le}
 use lib.ListN.{length, getD}
-use Rattle.terms.specs.Form.{Rule, whole, pierced, filled, composed, ruleAt}
+use Rattle.terms.specs.Form.{Rule, ruleAt}
 use Rattle.terms.specs.FormBytes.{ruleOffset, ruleByte, ruleBytes}
 use Rattle.terms.proofs.Form.Valid.{at-end, length-end, later-append}
-use Rattle.making.specs.Bytes.{bytesOf, fieldsFor, Holds, RuleWritten}
+use Rattle.making.specs.Bytes.{fieldsFor, Holds, RuleWritten}
 
 -- the bytes of the rules are kept
 pub held-kept : (exit entry : List ℕ) (rules : List Rule) → Holds entry rules
@@ -20,18 +20,17 @@ held-kept exit entry rules held same = record { bytes = λ i k h l. same (ruleOf
 pub held-none : (form : List ℕ) → Holds form []
 held-none form = record { bytes = λ i k h l. absurd (omega arith) }
 
--- a rule by its fields
-bytes-for : (r : Rule) → bytesOf (fieldsFor r) ≡ ruleBytes r
-bytes-for (whole f slots) = refl
-bytes-for (pierced f ls rs) = refl
-bytes-for (filled b c) = refl
-bytes-for (composed b c) = refl
-
 -- one rule more
 module _ (exit entry : List ℕ) (rules : List Rule) (r : Rule) (held : Holds entry rules) (w : RuleWritten (length rules) (fieldsFor r) exit entry) where
-  more : (i k : ℕ) → k < 12 → (i ≡ length rules) ⊎ (i < length rules) → ruleByte exit i k ≡ getD (ruleBytes (ruleAt (rules ++ (r ∷ [])) i)) k 0
-  more i k l (inl e) = rw (e, at-end rules r) (w .bytes k l ∙ ap (λ (b : List ℕ). getD b k 0) (bytes-for r))
-  more i k l (inr h) = rw (later-append rules r .same i h) (held-kept exit entry rules held (λ n a b. w .kept .front n b) .bytes i k h l)
+  -- byte k of a rule
+  abbrev byte : ℕ → Rule → ℕ
+  byte k x = getD (ruleBytes x) k 0
+
+  more : (i k : ℕ) → k < 12 → (i ≡ length rules) ⊎ (i < length rules) → ruleByte exit i k ≡ byte k (ruleAt (rules ++ (r ∷ [])) i)
+  more i k l (inl e) =
+      subst (λ (n : ℕ). ruleByte exit n k ≡ byte k (ruleAt (rules ++ (r ∷ [])) n)) (sym e) (w .bytes k l ∙ ap (byte k) (sym (at-end rules r)))
+  more i k l (inr h) =
+      held-kept exit entry rules held (λ n a b. w .kept .front n b) .bytes i k h l ∙ ap (byte k) (sym (later-append rules r .same i h))
 
   pub held-more : Holds exit (rules ++ (r ∷ []))
   held-more = record { bytes = λ i k h l. more i k l (eq-or-lt-of-le (omega (arith, length-end rules r))) }

@@ -12,3 +12,4 @@ pub mod Lower
 pub mod Ruling
 pub mod Finishing
 pub mod SheetRead
+pub mod Formed

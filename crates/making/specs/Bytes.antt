@@ -1,10 +1,10 @@
 -- The bytes that form making writes (document 01, "One-hole form").
 use mathlib.Core.Path.{_≡_}
 use mathlib.Core.List.{List, [], _∷_, _++_}
-use Prim.Native.Nat.{ℕ, suc, _+_, _<_, _≤_}
+use Prim.Native.Nat.{ℕ, _+_, _<_, _≤_}
 use lib.ListN.{length, getD, take, drop}
-use Rattle.terms.specs.Form.{Rule, whole, pierced, filled, composed, ruleAt}
-use Rattle.terms.specs.FormBytes.{ruleOffset, ruleByte, unused, bytesWith, ruleBytes, headBytes}
+use Rattle.terms.specs.Form.{Rule, ruleAt}
+use Rattle.terms.specs.FormBytes.{ruleOffset, ruleByte, unused, bytesWith, fieldsOf, ruleBytes, headBytes}
 use Rattle.forms.specs.declared.rule.FormRule.{FormRule}
 
 -- bytes put into a list at a place (01 One-hole form)
@@ -27,12 +27,9 @@ fieldsWith kind terminal hole slots = record {
   slot3 = record { 0 = getD slots 3 unused };
 }
 
--- the fields of a rule, those that its kind does not use as the document asks (01 One-hole form)
+-- the fields of a rule (01 One-hole form)
 abbrev pub fieldsFor : Rule → FormRule
-fieldsFor (whole f slots) = fieldsWith 0 f 0 slots
-fieldsFor (pierced f ls rs) = fieldsWith 1 f (suc (length ls)) (ls ++ (unused ∷ rs))
-fieldsFor (filled b c) = fieldsWith 2 0xFF 0 (b ∷ c ∷ [])
-fieldsFor (composed b c) = fieldsWith 3 0xFF 0 (b ∷ c ∷ [])
+fieldsFor r = fieldsWith (fieldsOf r .kind) (fieldsOf r .terminal) (fieldsOf r .hole) (fieldsOf r .slots)
 
 -- the bytes hold the rules, from rule 0 on (01 One-hole form)
 pub record Holds (form : List ℕ) (rules : List Rule) : Type 0 where

@@ -6,21 +6,18 @@ use native.Mathlib.Omega.{arith}
 use borrow.Author.Tests.{lt-ltb, le-ltb}
 use lib.ListN.{length, take, drop}
 use Rattle.terms.specs.Tree.{preorder}
-use Rattle.terms.specs.Grammar.{terminalRank}
-use Rattle.terms.specs.Automaton.{mask}
-use Rattle.terms.specs.Sheet.{alphabetOf, rulesOf, automatonOf, finals, nodesOf, transitionsOf, Verdict, sheetTree, sheetMask, sheetVerdict}
+use Rattle.terms.specs.Sheet.{alphabetOf, rulesOf, automatonOf, finals, Verdict, sheetTree, sheetMask, sheetVerdict}
 use Rattle.terms.specs.FormBytes.{ruleOffset}
 use Rattle.terms.specs.Calls.{lentAfter, rulesAsked, markingRefusal, makingRefusal, evaluationRefusal, relationsOf, formMask, walkMask}
 use Rattle.terms.specs.Demand.{FormOfSheet, Demand3}
 use Rattle.terms.proofs.Refusal.{is-first}
-use Rattle.terms.proofs.Demand.{form-meets}
-use Rattle.terms.proofs.Tree.Whole.{tree-of-preorder}
-use Rattle.terms.proofs.Grammar.Derivation.{derived-ranked}
+use Rattle.terms.proofs.Demand.{walk-answers, form-meets}
 use Rattle.terms.proofs.Sheet.Automaton.{automaton-passed}
 use Rattle.terms.proofs.Sheet.Bodies.{joined}
-use Rattle.terms.proofs.Sheet.Passed.{sheet-passed, sheet-proper}
+use Rattle.terms.proofs.Sheet.Passed.{sheet-passed}
 use Rattle.sheets.specs.declared.sheet.Layout.{Layout}
 use Rattle.making.specs.Making.{FormWritten}
+use Rattle.making.proofs.Formed.{form-of}
 use Rattle.making.proofs.SheetRead.{SheetRead, too-short, long-enough}
 use Rattle.marking.specs.declared.answer.Mark.{Mark}
 use Rattle.marking.specs.declared.answer.Mark.the-variants.{Refused}
@@ -74,16 +71,13 @@ module _ {s : List ℕ} {l : Layout} (read : SheetRead s l) where
 
   -- what the walk over the sheet's tree answers is the sheet's mask
   walked : walkMask (alphabetOf s) (automatonOf s) (preorder (sheetTree s)) ≡ sheetMask s
-  unfolding walkMask sheetTree sheetMask
-  walked =
-      ap (mask (transitionsOf (alphabetOf s) (automatonOf s)))
-      (tree-of-preorder (terminalRank (alphabetOf s)) (sheetTree s) (derived-ranked (alphabetOf s) (rulesOf s) (sheet-proper s (read .passed))))
+  unfolding sheetMask
+  walked = walk-answers s (read .passed)
 
   -- and its form is written
   module _ {n : ℕ} {exit entry : List ℕ} (w : FormWritten (alphabetOf s) (rulesOf s) n exit entry) where
     formed : FormOfSheet s (take n exit)
-    unfolding sheetTree nodesOf
-    formed = record { valid = w .accepted; tree = w .tree; few = w .linear }
+    formed = form-of s w
 
     demand : Demand3 s (take n exit)
     demand = form-meets s (read .passed) (take n exit) formed

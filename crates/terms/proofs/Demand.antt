@@ -62,7 +62,7 @@ module _ (sheet : List ℕ) (passes : refusal sheet ≡ 0) where
   unfolding walkRefusal
   walk-passes small room h = rw (passed .alphabet, passed .automaton, not-refused mostWalked small, le-ltb room (sizeOf tree) h)
 
-  walk-answers : walkMask alphabet automaton (preorder tree) ≡ mask (transitionsOf alphabet automaton) tree
+  pub walk-answers : walkMask alphabet automaton (preorder tree) ≡ mask (transitionsOf alphabet automaton) tree
   unfolding walkMask sheetTree
   walk-answers = ap (mask (transitionsOf alphabet automaton)) (tree-of-preorder (terminalRank alphabet) tree (derived-ranked alphabet (rulesOf sheet) (sheet-proper sheet passes)))
 

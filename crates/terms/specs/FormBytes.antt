@@ -129,12 +129,23 @@ bytesWith kind terminal hole slots =
     kind ∷ terminal ∷ hole ∷ 0
     ∷ (wordBytes (getD slots 0 unused) ++ (wordBytes (getD slots 1 unused) ++ (wordBytes (getD slots 2 unused) ++ wordBytes (getD slots 3 unused))))
 
--- the bytes of a rule; an unused terminal is FF, an unused hole 00 (01 One-hole form)
+-- what is written of a rule: kind, terminal, hole and slots (01 One-hole form)
+pub record RuleFields : Type 0 where
+  pub kind : ℕ
+  pub terminal : ℕ
+  pub hole : ℕ
+  pub slots : List ℕ
+
+-- these fields, for each kind; an unused terminal is FF, an unused hole 00 (01 One-hole form)
+abbrev pub fieldsOf : Rule → RuleFields
+fieldsOf (whole f slots) = record { kind = 0; terminal = f; hole = 0; slots = slots }
+fieldsOf (pierced f ls rs) = record { kind = 1; terminal = f; hole = suc (length ls); slots = ls ++ (unused ∷ rs) }
+fieldsOf (filled b c) = record { kind = 2; terminal = 0xFF; hole = 0; slots = b ∷ c ∷ [] }
+fieldsOf (composed b c) = record { kind = 3; terminal = 0xFF; hole = 0; slots = b ∷ c ∷ [] }
+
+-- the bytes of a rule (01 One-hole form)
 abbrev pub ruleBytes : Rule → List ℕ
-ruleBytes (whole f slots) = bytesWith 0 f 0 slots
-ruleBytes (pierced f ls rs) = bytesWith 1 f (suc (length ls)) (ls ++ (unused ∷ rs))
-ruleBytes (filled b c) = bytesWith 2 0xFF 0 (b ∷ c ∷ [])
-ruleBytes (composed b c) = bytesWith 3 0xFF 0 (b ∷ c ∷ [])
+ruleBytes r = bytesWith (fieldsOf r .kind) (fieldsOf r .terminal) (fieldsOf r .hole) (fieldsOf r .slots)
 
 -- the bytes of rules, one after another (01 One-hole form)
 unfoldable pub rulesBytes : List Rule → List ℕ

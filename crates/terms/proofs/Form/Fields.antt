@@ -13,7 +13,7 @@ use Rattle.terms.specs.Test.{every}
 use Rattle.terms.specs.Refusal.{outside}
 use Rattle.terms.specs.Grammar.{terminalRank, Arity}
 use Rattle.terms.specs.Form.{Rule, whole, pierced, filled, composed, treeIn, valueAt, ruleAt, holes, Has, Slots, Fits, Valid}
-use Rattle.terms.specs.FormBytes.{ruleCount, startOf, ruleOffset, ruleByte, slotOf, rankAt, formRule, formRules, formTree, callsLower, slotFits, slotsFit, unused, chainFits, kindFits, ruleFits, validFor, formRefusal}
+use Rattle.terms.specs.FormBytes.{ruleCount, startOf, ruleOffset, ruleByte, slotOf, rankAt, formRule, formRules, formTree, callsLower, slotFits, slotsFit, unused, chainFits, kindFits, ruleFits, validFor, formRefusal, fieldsOf}
 use Rattle.terms.proofs.Test.{of-true, is-true, both, every-of}
 use Rattle.terms.proofs.Tabulate.{tabulated}
 use Rattle.terms.proofs.Form.Bytes.{rank-le}
@@ -45,22 +45,13 @@ pub record Fields (form : List ℕ) (i k f h : ℕ) (slots : List ℕ) : Type 0 
 
 -- rule i is written as a rule
 abbrev pub Says : List ℕ → ℕ → Rule → Type 0
-Says form i (whole f slots) = Fields form i 0 f 0 slots
-Says form i (pierced f ls rs) = Fields form i 1 f (suc (length ls)) (ls ++ (unused ∷ rs))
-Says form i (filled b c) = Fields form i 2 0xFF 0 (b ∷ c ∷ [])
-Says form i (composed b c) = Fields form i 3 0xFF 0 (b ∷ c ∷ [])
+Says form i r = Fields form i (fieldsOf r .kind) (fieldsOf r .terminal) (fieldsOf r .hole) (fieldsOf r .slots)
 
 kind-holes : (form : List ℕ) (i : ℕ) (r : Rule) → Says form i r → rankAt form i ≡ holes r
 kind-holes form i (whole f slots) e = rw (e .kind)
 kind-holes form i (pierced f ls rs) e = rw (e .kind)
 kind-holes form i (filled b c) e = rw (e .kind)
 kind-holes form i (composed b c) e = rw (e .kind)
-
-fourth-none : (form : List ℕ) (i : ℕ) (r : Rule) → Says form i r → ruleByte form i 3 ≡ 0
-fourth-none form i (whole f slots) e = e .fourth
-fourth-none form i (pierced f ls rs) e = e .fourth
-fourth-none form i (filled b c) e = e .fourth
-fourth-none form i (composed b c) e = e .fourth
 
 module _ (alphabet form : List ℕ) (rules : List Rule) (low : (f : ℕ) → terminalRank alphabet f ≤ 4) (valid : Valid alphabet rules) (says : (i : ℕ) → i < length rules → Says form i (ruleAt rules i)) where
   -- the rule that the bytes say
@@ -183,7 +174,7 @@ module _ (alphabet form : List ℕ) (rules : List Rule) (low : (f : ℕ) → ter
     rule-fits =
         let f = ruleByte form i 1 in
         both (eqb (ruleByte form i 3) 0) (kindFits form i (ruleByte form i 0) (length alphabet) f (terminalRank alphabet f) (ruleByte form i 2))
-        (of-true _ (eq-eqb (ruleByte form i 3) 0 (fourth-none form i (ruleAt rules i) (says i inside)))) (kind-fits (ruleAt rules i) (says i inside) (valid .fits i inside))
+        (of-true _ (eq-eqb (ruleByte form i 3) 0 (says i inside .fourth))) (kind-fits (ruleAt rules i) (says i inside) (valid .fits i inside))
 
   -- the bytes are all of the form, with its number of rules and its start in the head
   module _ (start : ℕ) (counted : ruleCount form ≡ length rules) (begun : startOf form ≡ start) (long : length form ≡ ruleOffset (length rules)) where

@@ -8,7 +8,7 @@ use lib.ListN.{length, getD, length-append, List·getD-append}
 use lib.Seq.{ext-getD, getD-append-add}
 use Rattle.terms.specs.Bytes.{word}
 use Rattle.terms.specs.Form.{Rule, whole, pierced, filled, composed, ruleAt, Has, Slots, Fits, Valid}
-use Rattle.terms.specs.FormBytes.{ruleCount, startOf, ruleOffset, ruleByte, unused, bytesWith, ruleBytes, rulesBytes, headBytes, formBytes}
+use Rattle.terms.specs.FormBytes.{ruleCount, startOf, ruleOffset, ruleByte, unused, bytesWith, fieldsOf, ruleBytes, rulesBytes, headBytes, formBytes}
 use Rattle.terms.proofs.Sheet.Passed.{AlphabetPassed}
 use Rattle.terms.proofs.Sheet.Write.{word-back}
 use Rattle.terms.proofs.Form.Fields.{Fields, Says, FormRead, form-read}
@@ -16,10 +16,7 @@ use Rattle.terms.proofs.Form.Fields.{Fields, Says, FormRead, form-read}
 -- where the bytes stand
 
 length-rule : (r : Rule) → length (ruleBytes r) ≡ 12
-length-rule (whole f slots) = refl
-length-rule (pierced f ls rs) = refl
-length-rule (filled b c) = refl
-length-rule (composed b c) = refl
+length-rule r = refl
 
 length-rules : (rules : List Rule) → length (rulesBytes rules) ≡ 12 * length rules
 unfolding rulesBytes
@@ -119,11 +116,15 @@ module _ (rules : List Rule) (n : ℕ) (few : n ≤ 2048) where
   chain-narrow b c p q (suc zero) = has-narrow q
   chain-narrow b c p q (suc (suc j)) = omega arith
 
+  fields-narrow : (alphabet : List ℕ) (r : Rule) → Fits alphabet rules n r → (j : ℕ) → getD (fieldsOf r .slots) j unused < 65536
+  fields-narrow alphabet (whole f slots) p j = slots-narrow slots (p .0) j
+  fields-narrow alphabet (pierced f ls rs) p j = pierced-narrow ls rs (p .0) (p .1) j
+  fields-narrow alphabet (filled b c) p j = chain-narrow b c (p .0) (p .1) j
+  fields-narrow alphabet (composed b c) p j = chain-narrow b c (p .0) (p .1) j
+
   rule-says : (alphabet form : List ℕ) (i : ℕ) (r : Rule) → Fits alphabet rules n r → ((k : ℕ) → k < 12 → ruleByte form i k ≡ getD (ruleBytes r) k 0) → Says form i r
-  rule-says alphabet form i (whole f slots) p each = fields-read form i 0 f 0 slots (slots-narrow slots (p .0)) each
-  rule-says alphabet form i (pierced f ls rs) p each = fields-read form i 1 f (suc (length ls)) (ls ++ (unused ∷ rs)) (pierced-narrow ls rs (p .0) (p .1)) each
-  rule-says alphabet form i (filled b c) p each = fields-read form i 2 0xFF 0 (b ∷ c ∷ []) (chain-narrow b c (p .0) (p .1)) each
-  rule-says alphabet form i (composed b c) p each = fields-read form i 3 0xFF 0 (b ∷ c ∷ []) (chain-narrow b c (p .0) (p .1)) each
+  rule-says alphabet form i r p each =
+      fields-read form i (fieldsOf r .kind) (fieldsOf r .terminal) (fieldsOf r .hole) (fieldsOf r .slots) (fields-narrow alphabet r p) each
 
 -- the bytes of a valid form are accepted and read as its rules
 module _ (rules : List Rule) (start : ℕ) (few : length rules ≤ 2048) where
