@@ -1,10 +1,10 @@
--- `examples::form_rows::put_doubling` is safe and ends: i counts up to 2,047.
+-- `examples::doubling::put_doubling` is safe and ends: i counts up to 2,047.
 use mathlib.Core.Path.{_≡_}
 use Prim.Native.Nat.{_-_, _≤_}
 use borrow.Author.Needs.{needs}
 use lib.ListN.{length}
-use Rattle.examples.proofs.form_rows.put_doubling.Statement.{statement}
-use Rattle.examples.proofs.form_rows.put_doubling.Tie as tie
+use Rattle.examples.proofs.doubling.put_doubling.Statement.{statement}
+use Rattle.examples.proofs.doubling.put_doubling.Tie as tie
 
 abbrev Inv-loop : tie.InvT-loop
 Inv-loop form₀ i₀ form i = (2 ≤ i) × (i ≤ 2047) × (length form ≡ length form₀)

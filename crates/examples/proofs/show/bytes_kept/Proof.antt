@@ -1,27 +1,24 @@
--- `examples::form_rows::show_bytes` is safe and ends: i counts up to the length.
+-- `examples::show::bytes_kept` is safe and ends: i is at most the length, or where it started.
 use Prim.Native.Nat.{_-_}
 use borrow.Author.Needs.{needs}
 use lib.ListN.{length}
-use Rattle.examples.proofs.form_rows.show_bytes.Statement.{statement}
-use Rattle.examples.proofs.form_rows.show_bytes.Tie as tie
+use Rattle.examples.proofs.show.bytes_kept.Statement.{statement}
+use Rattle.examples.proofs.show.bytes_kept.Tie as tie
 
 abbrev Inv-loop : tie.InvT-loop
-Inv-loop bytes count i₀ i = Unit {0}
+Inv-loop bytes from i₀ i = Unit {0}
 
 abbrev μ-loop : tie.MeasureT-loop
-μ-loop bytes count i₀ i = length bytes - i
+μ-loop bytes from i₀ i = length bytes - i
 
 loop-holds : tie.Need-loop-holds Inv-loop μ-loop
 loop-holds c = tt
 
+shared-slice-read-if1 : tie.Need-shared-slice-read-if1 Inv-loop μ-loop
+shared-slice-read-if1 c = search needs
+
 returns : tie.Need-returns Inv-loop μ-loop
 returns c = search needs
-
-shared-slice-read-print-byte : tie.Need-shared-slice-read-print-byte Inv-loop μ-loop
-shared-slice-read-print-byte c = search needs
-
-print-byte-requires : tie.Need-print-byte-requires Inv-loop μ-loop
-print-byte-requires c κs = search needs
 
 add-i : tie.Need-add-i Inv-loop μ-loop
 add-i c = search needs
@@ -35,16 +32,15 @@ loop-again c = tt
 returns-2 : tie.Need-returns-2 Inv-loop μ-loop
 returns-2 c = search needs
 
-pub show-bytes-spec : {M : Type 1} → statement M
-show-bytes-spec =
+pub bytes-kept-spec : {M : Type 1} → statement M
+bytes-kept-spec =
     tie.close
     (tie.spec
     Inv-loop
     μ-loop
     loop-holds
+    shared-slice-read-if1
     returns
-    shared-slice-read-print-byte
-    print-byte-requires
     add-i
     loop-less
     loop-again

@@ -1,18 +1,21 @@
--- `examples::show::is_filled` is safe and ends: i is at most the length, or where it started.
+-- `examples::show::numbers_kept` is safe and ends: i counts up to the length.
 use Prim.Native.Nat.{_-_}
 use borrow.Author.Needs.{needs}
 use lib.ListN.{length}
-use Rattle.examples.proofs.show.is_filled.Statement.{statement}
-use Rattle.examples.proofs.show.is_filled.Tie as tie
+use Rattle.examples.proofs.show.numbers_kept.Statement.{statement}
+use Rattle.examples.proofs.show.numbers_kept.Tie as tie
 
 abbrev Inv-loop : tie.InvT-loop
-Inv-loop buffer from byte i₀ i = Unit {0}
+Inv-loop numbers i₀ i = Unit {0}
 
 abbrev μ-loop : tie.MeasureT-loop
-μ-loop buffer from byte i₀ i = length buffer - i
+μ-loop numbers i₀ i = length numbers - i
 
 loop-holds : tie.Need-loop-holds Inv-loop μ-loop
 loop-holds c = tt
+
+mul-if1 : tie.Need-mul-if1 Inv-loop μ-loop
+mul-if1 c = search needs
 
 shared-slice-read-if1 : tie.Need-shared-slice-read-if1 Inv-loop μ-loop
 shared-slice-read-if1 c = search needs
@@ -32,13 +35,14 @@ loop-again c = tt
 returns-2 : tie.Need-returns-2 Inv-loop μ-loop
 returns-2 c = search needs
 
-pub is-filled-spec : {M : Type 1} → statement M
-is-filled-spec =
+pub numbers-kept-spec : {M : Type 1} → statement M
+numbers-kept-spec =
     tie.close
     (tie.spec
     Inv-loop
     μ-loop
     loop-holds
+    mul-if1
     shared-slice-read-if1
     returns
     add-i

@@ -1,9 +1,9 @@
--- `marks::mark_next` is safe: a part of the slice is as long as was asked for.
+-- `examples::comparison::mark_next` is safe: a part of the slice is as long as was asked for.
 use mathlib.Core.Path.{sym}
 use lib.Seq.{length-take-le}
 use borrow.Author.Needs.{needs}
-use Rattle.marks.proofs.mark_next.Statement.{statement}
-use Rattle.marks.proofs.mark_next.Tie as tie
+use Rattle.examples.proofs.comparison.mark_next.Statement.{statement}
+use Rattle.examples.proofs.comparison.mark_next.Tie as tie
 
 slice-aggregate-read-full : tie.Need-slice-aggregate-read-full
 slice-aggregate-read-full c = search needs

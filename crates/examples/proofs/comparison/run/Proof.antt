@@ -1,10 +1,10 @@
--- `marks::main` is safe and ends: it counts the sheets up to 65,536.
+-- `examples::comparison::run` is safe and ends: it counts the sheets up to 65,536.
 use mathlib.Core.Path.{_≡_}
 use Prim.Native.Nat.{_-_, _≤_}
 use borrow.Author.Needs.{needs}
 use lib.ListN.{length}
-use Rattle.marks.proofs.main.Statement.{statement}
-use Rattle.marks.proofs.main.Tie as tie
+use Rattle.examples.proofs.comparison.run.Statement.{statement}
+use Rattle.examples.proofs.comparison.run.Tie as tie
 
 abbrev Inv-loop : tie.InvT-loop
 Inv-loop space₀ read₀ space read = (read ≤ 65536) × (length space ≡ 1833)
@@ -36,8 +36,8 @@ loop-again c = search needs
 returns-2 : tie.Need-returns-2 Inv-loop μ-loop
 returns-2 c = search needs
 
-pub main-spec : {M : Type 1} → statement M
-main-spec =
+pub run-spec : {M : Type 1} → statement M
+run-spec =
     tie.close
     (tie.spec
     Inv-loop

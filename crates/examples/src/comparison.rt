@@ -1,5 +1,5 @@
 // Marks the sheets on standard input, one behind the other, each after its length in two bytes, and prints a line for each. The gate holds the lines
-// to those of another implementation.
+// to those of another implementation, `expected` of compare/.
 use libc::STDIN_FILENO;
 use lines::line::line_of;
 use lines::show::show_line;
@@ -26,7 +26,7 @@ fn mark_next(input: &mut [u8]) -> bool {
     true
 }
 
-fn main() {
+pub fn run() {
     let mut space = [0u8; LONGEST_SHEET + 1];
     let mut read = 0;
     while read < MOST {
