@@ -9,6 +9,9 @@ use crate::reference::sheet::Sheet;
 use crate::reference::theorem;
 use std::hint::black_box;
 
+/// Both ways are timed in turns, so that a slow spell of the machine falls on both.
+const ROUNDS: usize = 5;
+
 #[derive(Clone, Copy)]
 enum Call {
     Mark,
@@ -58,8 +61,11 @@ pub fn print(engine: &dyn Engine, subjects: &[Subject]) {
 }
 
 fn line(engine: &dyn Engine, prepared: &Prepared, call: Call) -> String {
-    let ours = time(engine, prepared, call);
-    let theirs = time(&Idiomatic, prepared, call);
+    let (mut ours, mut theirs) = (f64::INFINITY, f64::INFINITY);
+    for _ in 0..ROUNDS {
+        ours = ours.min(time(engine, prepared, call));
+        theirs = theirs.min(time(&Idiomatic, prepared, call));
+    }
     let mut line = format!("{:10} {ours:12.3} {theirs:12.3} {:7.2}", call.name(), ours / theirs);
     if let Some(other) = theorem_time(prepared, call) {
         line += &format!(" {other:14.3} {:9.4}", ours / other);
