@@ -26,6 +26,16 @@ pub record Says (n x b refusal value : ℕ) : Type 0 where
   pub number : n ≡ refusal
   pub result : x ≡ resultAfter refusal value b
 
+-- an answer that is the refusal or, where there is none, a value: what is read of it is the number and the result
+says : {A : Type 0} (number : A → ℕ) (result : A → ℕ → ℕ) (answer : ℕ → ℕ → A)
+    → ((v b : ℕ) → (number (answer 0 v) ≡ 0) × (result (answer 0 v) b ≡ v))
+    → ((k v b : ℕ) → (number (answer (suc k) v) ≡ suc k) × (result (answer (suc k) v) b ≡ b))
+    → (k v b : ℕ) (r : A) → answer k v ≡ r → Says (number r) (result r b) b k v
+says {A} number result answer none some zero v b r e =
+    subst (λ (x : A). Says (number x) (result x b) b zero v) e (record { number = none v b .0; result = none v b .1 })
+says {A} number result answer none some (suc k) v b r e =
+    subst (λ (x : A). Says (number x) (result x b) b (suc k) v) e (record { number = some k v b .0; result = some k v b .1 })
+
 -- evaluation
 
 abbrev maskNumber : Evaluation → ℕ
@@ -37,8 +47,7 @@ maskResult (evaluating.Refused n) b = b
 maskResult (evaluating.Mask m) b = m
 
 pub mask-says : (k v b : ℕ) (r : Evaluation) → evaluation.orMask k v ≡ r → Says (maskNumber r) (maskResult r b) b k v
-mask-says zero v b r e = subst (λ (x : Evaluation). Says (maskNumber x) (maskResult x b) b zero v) e (record { number = refl; result = refl })
-mask-says (suc k) v b r e = subst (λ (x : Evaluation). Says (maskNumber x) (maskResult x b) b (suc k) v) e (record { number = refl; result = refl })
+mask-says = says maskNumber maskResult evaluation.orMask (λ v b. (refl, refl)) (λ k v b. (refl, refl))
 
 -- the walk
 
@@ -51,8 +60,7 @@ walkResult (walk.Refused n) b = b
 walkResult (walk.Mask m) b = m
 
 pub walk-says : (k v b : ℕ) (r : Walk) → walking.orMask k v ≡ r → Says (walkNumber r) (walkResult r b) b k v
-walk-says zero v b r e = subst (λ (x : Walk). Says (walkNumber x) (walkResult x b) b zero v) e (record { number = refl; result = refl })
-walk-says (suc k) v b r e = subst (λ (x : Walk). Says (walkNumber x) (walkResult x b) b (suc k) v) e (record { number = refl; result = refl })
+walk-says = says walkNumber walkResult walking.orMask (λ v b. (refl, refl)) (λ k v b. (refl, refl))
 
 -- unfolding
 
@@ -65,8 +73,7 @@ nodesResult (nodes.Refused n) b = b
 nodesResult (nodes.Written m) b = m
 
 pub nodes-says : (k v b : ℕ) (r : Unfolding) → unfolded k v ≡ r → Says (nodesNumber r) (nodesResult r b) b k v
-nodes-says zero v b r e = subst (λ (x : Unfolding). Says (nodesNumber x) (nodesResult x b) b zero v) e (record { number = refl; result = refl })
-nodes-says (suc k) v b r e = subst (λ (x : Unfolding). Says (nodesNumber x) (nodesResult x b) b (suc k) v) e (record { number = refl; result = refl })
+nodes-says = says nodesNumber nodesResult unfolded (λ v b. (refl, refl)) (λ k v b. (refl, refl))
 
 -- wrap
 
@@ -79,8 +86,7 @@ sheetResult (wrap.Refused n) b = b
 sheetResult (wrap.Written m) b = m
 
 pub sheet-says : (k v b : ℕ) (r : Wrapping) → wrappingAfter k v ≡ r → Says (sheetNumber r) (sheetResult r b) b k v
-sheet-says zero v b r e = subst (λ (x : Wrapping). Says (sheetNumber x) (sheetResult x b) b zero v) e (record { number = refl; result = refl })
-sheet-says (suc k) v b r e = subst (λ (x : Wrapping). Says (sheetNumber x) (sheetResult x b) b (suc k) v) e (record { number = refl; result = refl })
+sheet-says = says sheetNumber sheetResult wrappingAfter (λ v b. (refl, refl)) (λ k v b. (refl, refl))
 
 -- label
 
@@ -93,8 +99,7 @@ labelResult (label.Refused n) b = b
 labelResult (label.At f) b = f .0
 
 pub label-says : (k v b : ℕ) (r : Label) → labelled k v ≡ r → Says (labelNumber r) (labelResult r b) b k v
-label-says zero v b r e = subst (λ (x : Label). Says (labelNumber x) (labelResult x b) b zero v) e (record { number = refl; result = refl })
-label-says (suc k) v b r e = subst (λ (x : Label). Says (labelNumber x) (labelResult x b) b (suc k) v) e (record { number = refl; result = refl })
+label-says = says labelNumber labelResult labelled (λ v b. (refl, refl)) (λ k v b. (refl, refl))
 
 -- size
 

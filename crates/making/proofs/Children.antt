@@ -182,7 +182,11 @@ unfolding insts
 insts-size args nil rs = refl
 insts-size args (cons s us) rs = ap suc (insts-size args us rs)
 
-module _ {form space : List ℕ} {free : Free} {xs : List ℕ} {cell : ℕ} (i : Instance form space free xs cell) (k₀ : field space cell 0 ≡ 0 → ⊥) (k₁ : field space cell 0 ≡ 1 → ⊥) (k₂ : field space cell 0 ≡ 2 → ⊥) where
+-- the kind of a cell that is none of the others
+abbrev pub Branches : ℕ → Type 0
+Branches kind = (kind ≡ 0 → ⊥) × (kind ≡ 1 → ⊥) × (kind ≡ 2 → ⊥)
+
+module _ {form space : List ℕ} {free : Free} {xs : List ℕ} {cell : ℕ} (i : Instance form space free xs cell) (kind : Branches (field space cell 0)) where
   pub record Over : Type 0 where
     pub children : InstanceFrom form space free xs cell 0
     pub small : field space cell 1 < 256
@@ -192,9 +196,9 @@ module _ {form space : List ℕ} {free : Free} {xs : List ℕ} {cell : ℕ} (i :
   over = go (i .skeleton) (i .stands) (i .bounded) (i .room)
     where
       go : (s : Skeleton) → Stands space cell s → Bounded (size (i .arguments)) s → Room (weight s) (weight s) form space free → Over
-      go (param j) p b r = absurd (k₀ (p .0))
-      go (shut a) p b r = absurd (k₁ (p .0))
-      go (under c s) p b r = absurd (k₂ (p .0))
+      go (param j) p b r = absurd (kind .0 (p .0))
+      go (shut a) p b r = absurd (kind .1 (p .0))
+      go (under c s) p b r = absurd (kind .2 (p .0))
       go (branch f ss) p b r = record {
         children = record {
           skeletons = ss;
@@ -223,16 +227,16 @@ module _ {form space : List ℕ} {free : Free} {xs : List ℕ} {cell : ℕ} (i :
     branch-instanced {form₂} {space₂} {r} number rank is count g = record { grown = grown; lower = g .lower; stood = stood }
       where
         grown : (s : Skeleton) → Stands space cell s → Grown (weight s) (weight s) form space free form₂ space₂ (r .free)
-        grown (param j) p = absurd (k₀ (p .0))
-        grown (shut a) p = absurd (k₁ (p .0))
-        grown (under c s) p = absurd (k₂ (p .0))
+        grown (param j) p = absurd (kind .0 (p .0))
+        grown (shut a) p = absurd (kind .1 (p .0))
+        grown (under c s) p = absurd (kind .2 (p .0))
         grown (branch f us) p = grown-less (omega arith) (omega arith) (grown-then (b .grown us (record { row = p .3; count = omega (arith, p .2) })) (g .grown))
 
         stood : (rs : List Rule) (s : Skeleton) (ss : Skeletons) → Holds form rs → free .rule .0 ≡ length rs → Stands space cell s → Row space (free .cell) xs ss
             → Bounded (size ss) s → Stood (inst ss s rs) form₂ space₂ r
-        stood rs (param j) ss held e p row bound = absurd (k₀ (p .0))
-        stood rs (shut a) ss held e p row bound = absurd (k₁ (p .0))
-        stood rs (under c s) ss held e p row bound = absurd (k₂ (p .0))
+        stood rs (param j) ss held e p row bound = absurd (kind .0 (p .0))
+        stood rs (shut a) ss held e p row bound = absurd (kind .1 (p .0))
+        stood rs (under c s) ss held e p row bound = absurd (kind .2 (p .0))
         stood rs (branch f us) ss held e p row bound =
             let q = b .stood rs us ss held e (record { row = p .3; count = omega (arith, p .2) }) row bound in
             let x : number ≡ f = is ∙ p .1 in

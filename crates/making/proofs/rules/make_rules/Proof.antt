@@ -2,9 +2,10 @@
 -- stand for the model's skeletons. The measure is the number of rules left.
 use mathlib.Core.Path.{_≡_, refl}
 use mathlib.Core.List.{List}
-use Prim.Native.Nat.{ℕ, _+_, _-_}
+use Prim.Native.Nat.{ℕ, _+_, _-_, _≤_, _<_}
 use native.Mathlib.Omega.{arith}
-use lib.ListN.{take, drop}
+use lib.ListN.{length, take, drop}
+use Rattle.terms.specs.Check.{mostRules}
 use Rattle.sheets.proofs.Laws.Body.{nodesAt, ruleThere}
 use Rattle.making.specs.Rules.{Grammar}
 use Rattle.making.proofs.Ruling.{Making, none-made, few-rules, whole, side, rule-made, start-lower, cells-fit, finished}
@@ -33,230 +34,130 @@ loop-holds c = λ g. none-made g (c .write-parameters .ensures) refl refl refl r
 cast-if1 : tie.Need-cast-if1 Inv-loop μ-loop
 cast-if1 c = omega arith
 
+-- where the call begins
+abbrev start : tie.At-loop Inv-loop μ-loop → tie.Start Inv-loop μ-loop
+start c = c .before .before .before .before .before .before
+
+-- in a turn the next rule is whole in the body
+there : (c : tie.Then1 Inv-loop μ-loop) → let turn = c .before .before in
+    let body = start turn .args .body .now in
+    turn .loop .at + 2 + nodesAt body (turn .loop .at) ≤ length body
+there c =
+    let turn = c .before .before in
+    let g = start turn .pre in
+    whole g (turn .loop .inv g) (c .if1 .taken)
+
+-- and its number has a place among the ranks and among the roots
+place : (c : tie.Then1 Inv-loop μ-loop) → let turn = c .before .before in
+    let rule = turn .loop .rule .0 in
+    (rule < mostRules) × (rule < length (turn .loop .ranks)) × (rule < length (turn .loop .roots))
+place c =
+    let turn = c .before .before in
+    let g = start turn .pre in
+    let s = turn .loop .inv g in
+    omega (arith, few-rules g, c .if1 .taken, s .ranked, s .known .rooted)
+
 add-start : tie.Need-add-start Inv-loop μ-loop
-add-start c =
-    let test = c in
-    let loop = test .before .before in
-    let start = loop .before .before .before .before .before .before in
-    let g = start .pre in
-    let s = loop .loop .inv g in
-    let there = whole g s (test .if1 .taken) in
-    omega (arith, there)
+add-start c = omega (arith, there c)
 
 add-end : tie.Need-add-end Inv-loop μ-loop
-add-end c =
-    let test = c in
-    let loop = test .before .before in
-    let start = loop .before .before .before .before .before .before in
-    let g = start .pre in
-    let s = loop .loop .inv g in
-    let there = whole g s (test .if1 .taken) in
-    omega (arith, there)
+add-end c = omega (arith, there c)
 
 shared-slice-read-end : tie.Need-shared-slice-read-end Inv-loop μ-loop
-shared-slice-read-end c =
-    let test = c .before in
-    let loop = test .before .before in
-    let start = loop .before .before .before .before .before .before in
-    let g = start .pre in
-    let s = loop .loop .inv g in
-    let there = whole g s (test .if1 .taken) in
-    omega (arith, there)
+shared-slice-read-end c = omega (arith, there (c .before))
 
 cast-end : tie.Need-cast-end Inv-loop μ-loop
-cast-end c =
-    let test = c .before in
-    let loop = test .before .before in
-    let start = loop .before .before .before .before .before .before in
-    let g = start .pre in
-    let s = loop .loop .inv g in
-    let there = whole g s (test .if1 .taken) in
-    omega (arith, there)
+cast-end c = omega (arith, there (c .before))
 
 add-end-2 : tie.Need-add-end-2 Inv-loop μ-loop
-add-end-2 c =
-    let test = c .before in
-    let loop = test .before .before in
-    let start = loop .before .before .before .before .before .before in
-    let g = start .pre in
-    let s = loop .loop .inv g in
-    let there = whole g s (test .if1 .taken) in
-    omega (arith, there)
+add-end-2 c = omega (arith, there (c .before))
 
 sub-right-side : tie.Need-sub-right-side Inv-loop μ-loop
-sub-right-side c =
-    let test = c .before .before .before .before .before in
-    let loop = test .before .before in
-    let start = loop .before .before .before .before .before .before in
-    let g = start .pre in
-    let s = loop .loop .inv g in
-    let there = whole g s (test .if1 .taken) in
-    omega (arith, there)
+sub-right-side c = omega (arith, there (c .before .before .before .before .before))
 
 part-right-side-start : tie.Need-part-right-side-start Inv-loop μ-loop
-part-right-side-start c =
-    let test = c .before .before .before .before .before in
-    let loop = test .before .before in
-    let start = loop .before .before .before .before .before .before in
-    let g = start .pre in
-    let s = loop .loop .inv g in
-    let there = whole g s (test .if1 .taken) in
-    omega (arith, there)
+part-right-side-start c = omega (arith, there (c .before .before .before .before .before))
 
 part-right-side-end : tie.Need-part-right-side-end Inv-loop μ-loop
-part-right-side-end c =
-    let test = c .before .before .before .before .before in
-    let loop = test .before .before in
-    let start = loop .before .before .before .before .before .before in
-    let g = start .pre in
-    let s = loop .loop .inv g in
-    let there = whole g s (test .if1 .taken) in
-    omega (arith, there)
+part-right-side-end c = omega (arith, there (c .before .before .before .before .before))
 
 right-side-requires : tie.Need-right-side-requires Inv-loop μ-loop
 right-side-requires c κs =
     let test = c .before .before .before .before .before .before in
-    let loop = test .before .before in
-    let start = loop .before .before .before .before .before .before in
-    let g = start .pre in
-    let s = loop .loop .inv g in
-    let there = whole g s (test .if1 .taken) in
-    side g s (test .if1 .taken) (between (start .args .body .now) (loop .loop .at))
+    let turn = test .before .before in
+    let begun = start turn in
+    side (begun .pre) (turn .loop .inv (begun .pre)) (test .if1 .taken) (between (begun .args .body .now) (turn .loop .at))
+
+-- the turn of what comes after the right side is made
+abbrev turned : tie.After-right-side Inv-loop μ-loop → tie.Then1 Inv-loop μ-loop
+turned c = c .before .before .before .before .before .before .before
 
 shared-slice-read-ranks : tie.Need-shared-slice-read-ranks Inv-loop μ-loop
-shared-slice-read-ranks c =
-    let test = c .before .before .before .before .before .before .before .before .before .before in
-    let loop = test .before .before in
-    let start = loop .before .before .before .before .before .before in
-    let g = start .pre in
-    let s = loop .loop .inv g in
-    let there = whole g s (test .if1 .taken) in
-    omega (arith, there, few-rules g, test .if1 .taken, s .ranked, s .known .rooted)
+shared-slice-read-ranks c = omega (arith, there (turned (c .before .before .before)))
 
 cast-ranks : tie.Need-cast-ranks Inv-loop μ-loop
-cast-ranks c =
-    let test = c .before .before .before .before .before .before .before .before .before .before .before in
-    let loop = test .before .before in
-    let start = loop .before .before .before .before .before .before in
-    let g = start .pre in
-    let s = loop .loop .inv g in
-    let there = whole g s (test .if1 .taken) in
-    omega (arith, there, few-rules g, test .if1 .taken, s .ranked, s .known .rooted)
+cast-ranks c = omega (arith, place (turned (c .before .before .before .before)))
 
 array-write-ranks : tie.Need-array-write-ranks Inv-loop μ-loop
-array-write-ranks c =
-    let test = c .before .before .before .before .before .before .before .before .before .before .before in
-    let loop = test .before .before in
-    let start = loop .before .before .before .before .before .before in
-    let g = start .pre in
-    let s = loop .loop .inv g in
-    let there = whole g s (test .if1 .taken) in
-    omega (arith, there, few-rules g, test .if1 .taken, s .ranked, s .known .rooted)
+array-write-ranks c = omega (arith, place (turned (c .before .before .before .before)))
 
 cast-roots : tie.Need-cast-roots Inv-loop μ-loop
-cast-roots c =
-    let test = c .before .before .before .before .before .before .before .before .before .before .before .before in
-    let loop = test .before .before in
-    let start = loop .before .before .before .before .before .before in
-    let g = start .pre in
-    let s = loop .loop .inv g in
-    let there = whole g s (test .if1 .taken) in
-    omega (arith, there, few-rules g, test .if1 .taken, s .ranked, s .known .rooted)
+cast-roots c = omega (arith, place (turned (c .before .before .before .before .before)))
 
 mul-roots : tie.Need-mul-roots Inv-loop μ-loop
-mul-roots c =
-    let test = c .before .before .before .before .before .before .before .before .before .before .before .before in
-    let loop = test .before .before in
-    let start = loop .before .before .before .before .before .before in
-    let g = start .pre in
-    let s = loop .loop .inv g in
-    let there = whole g s (test .if1 .taken) in
-    omega (arith, there, few-rules g, test .if1 .taken, s .ranked, s .known .rooted)
+mul-roots c = omega (arith, place (turned (c .before .before .before .before .before)))
 
 array-write-roots : tie.Need-array-write-roots Inv-loop μ-loop
-array-write-roots c =
-    let test = c .before .before .before .before .before .before .before .before .before .before .before .before in
-    let loop = test .before .before in
-    let start = loop .before .before .before .before .before .before in
-    let g = start .pre in
-    let s = loop .loop .inv g in
-    let there = whole g s (test .if1 .taken) in
-    omega (arith, there, few-rules g, test .if1 .taken, s .ranked, s .known .rooted)
+array-write-roots c = omega (arith, place (turned (c .before .before .before .before .before)))
 
 add-t37 : tie.Need-add-t37 Inv-loop μ-loop
-add-t37 c =
-    let test = c .before .before .before .before .before .before .before .before .before .before .before .before .before .before in
-    let loop = test .before .before in
-    let start = loop .before .before .before .before .before .before in
-    let g = start .pre in
-    let s = loop .loop .inv g in
-    let there = whole g s (test .if1 .taken) in
-    omega (arith, there, few-rules g, test .if1 .taken, s .ranked, s .known .rooted)
+add-t37 c = omega (arith, place (turned (c .before .before .before .before .before .before .before)))
 
 loop-less : tie.Need-loop-less Inv-loop μ-loop
-loop-less c = omega (arith, c .before .before .before .before .before .before .before .before .before .before .before .before .before .before .if1 .taken)
+loop-less c = omega (arith, turned (c .before .before .before .before .before .before .before) .if1 .taken)
 
 loop-again : tie.Need-loop-again Inv-loop μ-loop
 loop-again c = λ g.
     (let made = c .before .before .before .before .before .before .before in
-    let test = made .before .before .before .before .before .before .before in
-    let loop = test .before .before in
-    let start = loop .before .before .before .before .before .before in
-    rule-made g (loop .loop .inv g) (test .if1 .taken) (between (start .args .body .now) (loop .loop .at)) (made .right-side .ensures) _ refl _ refl)
+    let test = turned made in
+    let turn = test .before .before in
+    rule-made g (turn .loop .inv g) (test .if1 .taken) (between (start turn .args .body .now) (turn .loop .at)) (made .right-side .ensures) _ refl _ refl)
+
+-- behind the last turn there is a last rule, whose root has its place
+last : (c : tie.Else1 Inv-loop μ-loop) → let turn = c .before .before in
+    let rules = start turn .args .rules in
+    (1 ≤ rules) × (rules ≤ mostRules) × (rules ≤ length (turn .loop .roots))
+last c =
+    let turn = c .before .before in
+    let g = start turn .pre in
+    omega (arith, g .count, g .proper .some, few-rules g, turn .loop .inv g .known .rooted)
 
 sub-field : tie.Need-sub-field Inv-loop μ-loop
-sub-field c =
-    let test = c .before in
-    let loop = test .before .before in
-    let start = loop .before .before .before .before .before .before in
-    let g = start .pre in
-    let s = loop .loop .inv g in
-    omega (arith, g .count, g .proper .some, few-rules g, s .known .rooted)
+sub-field c = omega (arith, last (c .before))
 
 mul-field : tie.Need-mul-field Inv-loop μ-loop
-mul-field c =
-    let test = c .before in
-    let loop = test .before .before in
-    let start = loop .before .before .before .before .before .before in
-    let g = start .pre in
-    let s = loop .loop .inv g in
-    omega (arith, g .count, g .proper .some, few-rules g, s .known .rooted)
+mul-field c = omega (arith, last (c .before))
 
 array-read-field : tie.Need-array-read-field Inv-loop μ-loop
-array-read-field c =
-    let test = c .before in
-    let loop = test .before .before in
-    let start = loop .before .before .before .before .before .before in
-    let g = start .pre in
-    let s = loop .loop .inv g in
-    omega (arith, g .count, g .proper .some, few-rules g, s .known .rooted)
+array-read-field c = omega (arith, last (c .before))
 
 field-requires : tie.Need-field-requires Inv-loop μ-loop
 field-requires c κs =
-    let test = c .before in
-    let loop = test .before .before in
-    let start = loop .before .before .before .before .before .before in
-    let g = start .pre in
-    let s = loop .loop .inv g in
-    (s .all, omega (arith, start-lower g s (test .if1 .left) _ refl, cells-fit g s (test .if1 .left)), omega arith)
+    let turn = c .before .before .before in
+    let g = start turn .pre in
+    let s = turn .loop .inv g in
+    let left = c .before .if1 .left in
+    (s .all, omega (arith, start-lower g s left _ refl, cells-fit g s left), omega arith)
 
 same-length : tie.Need-same-length Inv-loop μ-loop
-same-length c =
-    let test = c .before .before .before in
-    let loop = test .before .before in
-    let start = loop .before .before .before .before .before .before in
-    let g = start .pre in
-    let s = loop .loop .inv g in
-    s .long
+same-length c = let turn = c .before .before .before .before .before in turn .loop .inv (start turn .pre) .long
 
 returns : tie.Need-returns Inv-loop μ-loop
 returns c =
     let test = c .before .before .before in
-    let loop = test .before .before in
-    let start = loop .before .before .before .before .before .before in
-    let g = start .pre in
-    let s = loop .loop .inv g in
-    finished g s (test .if1 .left) refl (c .before .field .ensures)
+    let turn = test .before .before in
+    let g = start turn .pre in
+    finished g (turn .loop .inv g) (test .if1 .left) refl (c .before .field .ensures)
 
 pub make-rules-spec : {M : Type 1} → statement M
 make-rules-spec =

@@ -1,7 +1,9 @@
 -- `making::side::right_side` meets its contract. The invariant: the cells on the stack stand for the model's stack after the nodes passed, the last ones.
-use mathlib.Core.Path.{refl}
-use Prim.Native.Nat.{_-_}
+use mathlib.Core.Path.{_≡_, refl}
+use Prim.Native.Nat.{_+_, _-_, _≤_, _<_}
 use native.Mathlib.Omega.{arith}
+use lib.ListN.{length}
+use Rattle.terms.specs.Check.{mostNodes}
 use Rattle.making.specs.Side.{RightSide}
 use Rattle.making.proofs.Scanning.{Scanning, scan-none, node-ranked, node-low, low-enough, rank-read, ready-as, scan-more-as, scan-all, whole-part}
 use Rattle.making.proofs.side.right_side.Statement.{statement}
@@ -20,159 +22,82 @@ loop-holds c = λ g. scan-none g _ _ _ refl refl refl
 sub-left : tie.Need-sub-left Inv-loop μ-loop
 sub-left c = omega arith
 
+-- where the call begins
+abbrev start : tie.At-loop Inv-loop μ-loop → tie.Start Inv-loop μ-loop
+start c = c .before .before .before .before
+
+-- what stands on the stack begins at `low`
+stacked : (c : tie.At-loop Inv-loop μ-loop) → (length (c .loop .stack) ≡ mostNodes) × (c .loop .low ≤ mostNodes)
+stacked c = let s = c .loop .inv (start c .pre) in omega (arith, s .long, s .depth)
+
 shared-slice-read-name-of : tie.Need-shared-slice-read-name-of Inv-loop μ-loop
-shared-slice-read-name-of c =
-    let loop = c .before .before in
-    let start = loop .before .before .before .before in
-    let g = start .pre in
-    omega (arith, loop .loop .inv g .upto)
+shared-slice-read-name-of c = let turn = c .before .before in omega (arith, turn .loop .inv (start turn .pre) .upto)
 
 name-of-requires : tie.Need-name-of-requires Inv-loop μ-loop
 name-of-requires c κs = tt
 
+abbrev turned : tie.After-name-of Inv-loop μ-loop → tie.At-loop Inv-loop μ-loop
+turned c = c .before .before .before
+
 name-rank-requires : tie.Need-name-rank-requires Inv-loop μ-loop
 name-rank-requires c κs =
-    let name = c in
-    let turn = name .before .before in
-    let loop = turn .before in
-    let start = loop .before .before .before .before in
-    let g = start .pre in
-    let left = loop .loop .left - 1 in
-    let s = loop .loop .inv g in
-    rw (name .name-of .ensures) (node-ranked g left (omega arith) s)
+    let turn = turned c in
+    let g = start turn .pre in
+    rw (c .name-of .ensures) (node-ranked g (turn .loop .left - 1) (omega arith) (turn .loop .inv g))
+
+-- the node takes as many cells from the stack as its rank, and puts one there
+room : (c : tie.After-name-rank Inv-loop μ-loop) → let low = turned (c .before) .loop .low in
+    (c .name-rank .result ≤ 4) × (1 ≤ low) × (low + c .name-rank .result ≤ mostNodes)
+room c =
+    let turn = turned (c .before) in
+    let g = start turn .pre in
+    let left = turn .loop .left - 1 in
+    let s = turn .loop .inv g in
+    omega
+    (arith, rank-read g left (omega arith) s (c .before .name-of .ensures) (c .name-rank .ensures), node-low g left (omega arith) s, low-enough g left (omega arith) s)
 
 mul-node : tie.Need-mul-node Inv-loop μ-loop
-mul-node c =
-    let name = c .before .before .before in
-    let turn = name .before .before in
-    let loop = turn .before in
-    let start = loop .before .before .before .before in
-    let g = start .pre in
-    let left = loop .loop .left - 1 in
-    let s = loop .loop .inv g in
-    omega (arith, s .depth)
+mul-node c = omega (arith, stacked (turned (c .before .before .before)))
 
 sub-node : tie.Need-sub-node Inv-loop μ-loop
-sub-node c =
-    let name = c .before .before .before in
-    let turn = name .before .before in
-    let loop = turn .before in
-    let start = loop .before .before .before .before in
-    let g = start .pre in
-    let left = loop .loop .left - 1 in
-    let s = loop .loop .inv g in
-    omega (arith, s .depth)
+sub-node c = omega (arith, stacked (turned (c .before .before .before)))
 
 part-node-start : tie.Need-part-node-start Inv-loop μ-loop
-part-node-start c =
-    let name = c .before .before .before .before in
-    let turn = name .before .before in
-    let loop = turn .before in
-    let start = loop .before .before .before .before in
-    let g = start .pre in
-    let left = loop .loop .left - 1 in
-    let s = loop .loop .inv g in
-    omega (arith, s .depth)
+part-node-start c = omega (arith, stacked (turned (c .before .before .before .before)))
 
 part-node-end : tie.Need-part-node-end Inv-loop μ-loop
-part-node-end c =
-    let name = c .before .before .before .before in
-    let turn = name .before .before in
-    let loop = turn .before in
-    let start = loop .before .before .before .before in
-    let g = start .pre in
-    let left = loop .loop .left - 1 in
-    let s = loop .loop .inv g in
-    omega (arith, s .long)
+part-node-end c = omega (arith, stacked (turned (c .before .before .before .before)))
 
 node-requires : tie.Need-node-requires Inv-loop μ-loop
 node-requires c κs =
     let rank = c .before .before .before .before in
-    let name = rank .before in
-    let turn = name .before .before in
-    let loop = turn .before in
-    let start = loop .before .before .before .before in
-    let g = start .pre in
-    let left = loop .loop .left - 1 in
-    let s = loop .loop .inv g in
-    let same = name .name-of .ensures in
-    let ranked = rank .name-rank .ensures in
-    (g .known .rooted, ready-as g left (omega arith) s same ranked _ (whole-part (loop .loop .stack) (loop .loop .low) (s .long)))
+    let turn = turned (rank .before) in
+    let g = start turn .pre in
+    let s = turn .loop .inv g in (
+      g .known .rooted,
+      ready-as g (turn .loop .left - 1) (omega arith) s (rank .before .name-of .ensures) (rank .name-rank .ensures) _
+          (whole-part (turn .loop .stack) (turn .loop .low) (s .long)),
+    )
+
+abbrev ranked : tie.After-node Inv-loop μ-loop → tie.After-name-rank Inv-loop μ-loop
+ranked c = c .before .before .before .before .before
 
 cast-low : tie.Need-cast-low Inv-loop μ-loop
-cast-low c =
-    let made = c .before .before .before in
-    let rank = made .before .before .before .before .before in
-    let name = rank .before in
-    let turn = name .before .before in
-    let loop = turn .before in
-    let start = loop .before .before .before .before in
-    let g = start .pre in
-    let left = loop .loop .left - 1 in
-    let s = loop .loop .inv g in
-    let same = name .name-of .ensures in
-    let ranked = rank .name-rank .ensures in
-    omega (arith, rank-read g left (omega arith) s same ranked, node-low g left (omega arith) s)
+cast-low c = omega (arith, room (ranked (c .before .before .before)))
 
 add-low : tie.Need-add-low Inv-loop μ-loop
-add-low c =
-    let made = c .before .before .before in
-    let rank = made .before .before .before .before .before in
-    let name = rank .before in
-    let turn = name .before .before in
-    let loop = turn .before in
-    let start = loop .before .before .before .before in
-    let g = start .pre in
-    let left = loop .loop .left - 1 in
-    let s = loop .loop .inv g in
-    let same = name .name-of .ensures in
-    let ranked = rank .name-rank .ensures in
-    omega (arith, rank-read g left (omega arith) s same ranked, low-enough g left (omega arith) s, s .long)
+add-low c = omega (arith, room (ranked (c .before .before .before)))
 
 sub-low : tie.Need-sub-low Inv-loop μ-loop
-sub-low c =
-    let made = c .before .before .before in
-    let rank = made .before .before .before .before .before in
-    let name = rank .before in
-    let turn = name .before .before in
-    let loop = turn .before in
-    let start = loop .before .before .before .before in
-    let g = start .pre in
-    let left = loop .loop .left - 1 in
-    let s = loop .loop .inv g in
-    let same = name .name-of .ensures in
-    let ranked = rank .name-rank .ensures in
-    omega (arith, rank-read g left (omega arith) s same ranked, low-enough g left (omega arith) s, s .long)
+sub-low c = omega (arith, room (ranked (c .before .before .before)))
 
 mul-stack : tie.Need-mul-stack Inv-loop μ-loop
-mul-stack c =
-    let made = c .before .before .before in
-    let rank = made .before .before .before .before .before in
-    let name = rank .before in
-    let turn = name .before .before in
-    let loop = turn .before in
-    let start = loop .before .before .before .before in
-    let g = start .pre in
-    let left = loop .loop .left - 1 in
-    let s = loop .loop .inv g in
-    let same = name .name-of .ensures in
-    let ranked = rank .name-rank .ensures in
-    omega (arith, rank-read g left (omega arith) s same ranked, low-enough g left (omega arith) s, s .long)
+mul-stack c = omega (arith, room (ranked (c .before .before .before)))
 
 array-write-stack : tie.Need-array-write-stack Inv-loop μ-loop
 array-write-stack c =
-    let made = c .before .before .before in
-    let rank = made .before .before .before .before .before in
-    let name = rank .before in
-    let turn = name .before .before in
-    let loop = turn .before in
-    let start = loop .before .before .before .before in
-    let g = start .pre in
-    let left = loop .loop .left - 1 in
-    let s = loop .loop .inv g in
-    let same = name .name-of .ensures in
-    let ranked = rank .name-rank .ensures in
-    omega (arith, rank-read g left (omega arith) s same ranked, low-enough g left (omega arith) s, s .long)
+    let rank = ranked (c .before .before .before) in
+    omega (arith, room rank, stacked (turned (rank .before)))
 
 loop-less : tie.Need-loop-less Inv-loop μ-loop
 loop-less c = omega arith
@@ -180,46 +105,29 @@ loop-less c = omega arith
 loop-again : tie.Need-loop-again Inv-loop μ-loop
 loop-again c = λ g.
     (let made = c .before .before .before in
-    let rank = made .before .before .before .before .before in
-    let name = rank .before in
-    let loop = name .before .before .before in
-    let left = loop .loop .left - 1 in
-    let s = loop .loop .inv g in
-    let same = name .name-of .ensures in
-    let ranked = rank .name-rank .ensures in
-    scan-more-as g left (omega arith) s same ranked _ (whole-part (loop .loop .stack) (loop .loop .low) (s .long)) _ _ (made .node .result) (made .node .ensures) _ refl)
+    let rank = ranked made in
+    let turn = turned (rank .before) in
+    let s = turn .loop .inv g in
+    scan-more-as g (turn .loop .left - 1) (omega arith) s (rank .before .name-of .ensures) (rank .name-rank .ensures) _
+    (whole-part (turn .loop .stack) (turn .loop .low) (s .long)) _ _ (made .node .result) (made .node .ensures) _ refl)
+
+-- behind the last turn one cell is left, in its place
+scanned : (c : tie.At-loop Inv-loop μ-loop) → c .loop .left ≡ 0 → c .loop .low < mostNodes
+scanned c none = let g = start c .pre in scan-all g none (c .loop .inv g) .0
 
 mul-cell : tie.Need-mul-cell Inv-loop μ-loop
-mul-cell c =
-    let loop = c .before in
-    let start = loop .before .before .before .before in
-    let g = start .pre in
-    let s = loop .loop .inv g in
-    let a = scan-all g (omega arith) s in
-    omega (arith, a .0)
+mul-cell c = omega (arith, scanned (c .before) (omega arith))
 
 array-read-cell : tie.Need-array-read-cell Inv-loop μ-loop
-array-read-cell c =
-    let loop = c .before in
-    let start = loop .before .before .before .before in
-    let g = start .pre in
-    let s = loop .loop .inv g in
-    let a = scan-all g (omega arith) s in
-    omega (arith, a .0, s .long)
+array-read-cell c = omega (arith, scanned (c .before) (omega arith), stacked (c .before))
 
 same-length : tie.Need-same-length Inv-loop μ-loop
-same-length c =
-    let loop = c .before in
-    let start = loop .before .before .before .before in
-    let g = start .pre in
-    let s = loop .loop .inv g in
-    let a = scan-all g (omega arith) s in
-    s .grown .long
+same-length c = c .before .loop .inv (start (c .before) .pre) .grown .long
 
 returns : tie.Need-returns Inv-loop μ-loop
 returns c =
-    let loop = c .before in
-    record { grown = λ g. scan-all g (omega arith) (loop .loop .inv g) .1; stood = λ g. scan-all g (omega arith) (loop .loop .inv g) .2 }
+    let turn = c .before in
+    record { grown = λ g. scan-all g (omega arith) (turn .loop .inv g) .1; stood = λ g. scan-all g (omega arith) (turn .loop .inv g) .2 }
 
 pub right-side-spec : {M : Type 1} → statement M
 right-side-spec =
