@@ -7,10 +7,10 @@ pub mod calls;
 #[cfg(feature = "engine")]
 #[allow(unsafe_code)]
 pub mod engine;
-pub mod examples;
 pub mod generate;
 pub mod harness;
 pub mod hex;
 pub mod idiomatic;
 pub mod reference;
 pub mod refusal;
+pub mod rows;

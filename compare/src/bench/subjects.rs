@@ -1,11 +1,12 @@
 //! The sheets that are timed.
 
-use crate::examples;
 use crate::generate::automata;
 use crate::generate::plan::Plan;
 use crate::generate::random::Random;
 use crate::generate::{shapes, sheets};
+use crate::reference::calls::joined;
 use crate::reference::sheet::Sheet;
+use crate::rows;
 
 pub struct Subject {
     pub name: &'static str,
@@ -15,13 +16,13 @@ pub struct Subject {
 pub fn subjects() -> Vec<Subject> {
     let subject = |name, sheet| Subject { name, sheet };
     vec![
-        subject("W", examples::w()),
-        subject("K7", examples::k7()),
+        subject("W", rows::sheet("K1 W")),
+        subject("K7", rows::sheet("K7 h doubled ten times, on a")),
         subject("largest", largest()),
         subject("rank 4 nested", nested()),
-        subject("forty rules", examples::with_rules(&examples::doubling(38))),
-        subject("chain of 4,096", examples::with_rules(&chain())),
-        subject("binary of 4,096", examples::with_rules(&binary())),
+        subject("forty rules", with_rules(&doubling(38))),
+        subject("chain of 4,096", with_rules(&chain())),
+        subject("binary of 4,096", with_rules(&binary())),
     ]
 }
 
@@ -56,9 +57,25 @@ fn widest(random: &mut Random, plan: Plan) -> Vec<u8> {
     Plan { automaton, ..plan }.sheet()
 }
 
+/// W with other rules.
+fn with_rules(rules: &[u8]) -> Vec<u8> {
+    let w = Sheet::read(&rows::sheet("K1 W")).expect("a lawful sheet");
+    joined(&[&w.alphabet_body, rules, &w.automaton_body])
+}
+
+/// Rule 0 is h(y1), each of these many more is the last called twice, and the start is on a.
+fn doubling(times: u8) -> Vec<u8> {
+    let mut rules = vec![1, 2, 2, 0x80];
+    for rule in 0..times {
+        rules.extend([1, 3, 0x40 + rule, 0x40 + rule, 0x80]);
+    }
+    rules.extend([0, 2, 0x40 + times, 0]);
+    rules
+}
+
 /// 4,095 times h over a: one of each power of 2 from 11 to 0.
 fn chain() -> Vec<u8> {
-    let mut rules = examples::doubling(11);
+    let mut rules = doubling(11);
     rules.truncate(rules.len() - 4);
     rules.extend([0, 13]);
     rules.extend((0..12).rev().map(|power| 0x40 + power));

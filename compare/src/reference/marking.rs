@@ -4,6 +4,29 @@ use super::facts::Facts;
 use super::making;
 use crate::refusal::{Answer, Refusal};
 
+/// A step of the tally.
+#[derive(Clone, Copy)]
+pub enum Step {
+    Accept,
+    Decline,
+    TurnAway,
+}
+
+/// The tally after a step: refusal 25 where a marking would get it.
+pub fn step(tally: [u32; 3], step: Step) -> Answer<[u32; 3]> {
+    if is_full(tally) {
+        return Err(Refusal(25));
+    }
+    let mut moved = tally;
+    moved[step as usize] += 1;
+    Ok(moved)
+}
+
+/// Whether some count is 2^32 - 1.
+fn is_full(tally: [u32; 3]) -> bool {
+    tally.contains(&u32::MAX)
+}
+
 /// The facts by which a sheet is marked with this tally and slices of these lengths: refusal 25,
 /// then 1 to 17, then 19.
 pub fn allowed(
@@ -12,7 +35,7 @@ pub fn allowed(
     form_length: usize,
     relations_length: usize,
 ) -> Answer<&Facts> {
-    if tally.contains(&u32::MAX) {
+    if is_full(tally) {
         return Err(Refusal(25));
     }
     let facts = making::allowed(facts, form_length)?;

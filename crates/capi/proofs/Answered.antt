@@ -2,23 +2,24 @@
 use mathlib.Core.Path.{_≡_, refl, subst}
 use Prim.Native.Nat.{ℕ, zero, suc}
 use Rattle.terms.specs.Count as count
-use Rattle.sheets.specs.Wrap.{wrappingAfter}
-use Rattle.sheets.specs.declared.wrap.Wrapping.{Wrapping}
-use Rattle.sheets.specs.declared.wrap.Wrapping.the-variants as wrap
-use Rattle.forms.specs.Answer.{sized, labelled}
-use Rattle.forms.specs.Evaluation as evaluation
-use Rattle.forms.specs.Unfolding.{unfolded}
-use Rattle.forms.specs.declared.answer.Size.{Size}
-use Rattle.forms.specs.declared.answer.Size.the-variants as size
-use Rattle.forms.specs.declared.answer.Label.{Label}
-use Rattle.forms.specs.declared.answer.Label.the-variants as label
-use Rattle.forms.specs.declared.evaluate.Evaluation.{Evaluation}
-use Rattle.forms.specs.declared.evaluate.Evaluation.the-variants as evaluating
-use Rattle.forms.specs.declared.unfold.Unfolding.{Unfolding}
-use Rattle.forms.specs.declared.unfold.Unfolding.the-variants as nodes
-use Rattle.walking.specs.Walking as walking
-use Rattle.walking.specs.declared.answer.Walk.{Walk}
-use Rattle.walking.specs.declared.answer.Walk.the-variants as walk
+use Rattle.wrapping.specs.Wrap.{wrappingAfter}
+use Rattle.wrapping.specs.declared.wrap.Wrapping.{Wrapping}
+use Rattle.wrapping.specs.declared.wrap.Wrapping.the-variants as wrap
+use Rattle.counting.specs.Size.{sized}
+use Rattle.labelling.specs.Label.{labelled}
+use Rattle.evaluation.specs.Evaluation as evaluation
+use Rattle.unfolding.specs.Unfolding.{unfolded}
+use Rattle.counting.specs.declared.answer.Size.{Size}
+use Rattle.counting.specs.declared.answer.Size.the-variants as size
+use Rattle.labelling.specs.declared.answer.Label.{Label}
+use Rattle.labelling.specs.declared.answer.Label.the-variants as label
+use Rattle.evaluation.specs.declared.evaluate.Evaluation.{Evaluation}
+use Rattle.evaluation.specs.declared.evaluate.Evaluation.the-variants as evaluating
+use Rattle.unfolding.specs.declared.unfold.Unfolding.{Unfolding}
+use Rattle.unfolding.specs.declared.unfold.Unfolding.the-variants as nodes
+use Rattle.plain_walk.specs.Walking as walking
+use Rattle.plain_walk.specs.declared.answer.Walk.{Walk}
+use Rattle.plain_walk.specs.declared.answer.Walk.the-variants as walk
 use Rattle.capi.specs.Result.{resultAfter, sizeNumber}
 
 -- the number is the refusal's, and x stands behind the pointer where b stood
@@ -46,8 +47,8 @@ abbrev maskResult : Evaluation → ℕ → ℕ
 maskResult (evaluating.Refused n) b = b
 maskResult (evaluating.Mask m) b = m
 
-pub mask-says : (k v b : ℕ) (r : Evaluation) → evaluation.orMask k v ≡ r → Says (maskNumber r) (maskResult r b) b k v
-mask-says = says maskNumber maskResult evaluation.orMask (λ v b. (refl, refl)) (λ k v b. (refl, refl))
+pub mask-says : (k v b : ℕ) (r : Evaluation) → evaluation.evaluationAfter k v ≡ r → Says (maskNumber r) (maskResult r b) b k v
+mask-says = says maskNumber maskResult evaluation.evaluationAfter (λ v b. (refl, refl)) (λ k v b. (refl, refl))
 
 -- the walk
 
@@ -59,8 +60,8 @@ abbrev walkResult : Walk → ℕ → ℕ
 walkResult (walk.Refused n) b = b
 walkResult (walk.Mask m) b = m
 
-pub walk-says : (k v b : ℕ) (r : Walk) → walking.orMask k v ≡ r → Says (walkNumber r) (walkResult r b) b k v
-walk-says = says walkNumber walkResult walking.orMask (λ v b. (refl, refl)) (λ k v b. (refl, refl))
+pub walk-says : (k v b : ℕ) (r : Walk) → walking.walkAfter k v ≡ r → Says (walkNumber r) (walkResult r b) b k v
+walk-says = says walkNumber walkResult walking.walkAfter (λ v b. (refl, refl)) (λ k v b. (refl, refl))
 
 -- unfolding
 

@@ -10,8 +10,9 @@ use Rattle.terms.specs.Calls.{markingRefusal}
 use Rattle.terms.proofs.Refusal.{or-none}
 use Rattle.marking.specs.declared.answer.Mark.{Mark}
 use Rattle.marking.specs.declared.answer.Mark.the-variants.{Refused, Accepted, Declined}
-use Rattle.marking.specs.Tally.{counts}
-use Rattle.marking.specs.Marking.{orVerdict, marking, counted, SlicesLeft}
+use Rattle.tallies.specs.Tally.{counts}
+use Rattle.marking.specs.Marking.{orVerdict, SlicesLeft}
+use Rattle.tallies.specs.Counted.{marking, counted}
 use Rattle.capi.specs.Result.{resultAfter}
 use Rattle.capi.specs.Mark.{tallyOf, verdictNumber, markRefusal, tallyLeft}
 

@@ -10,8 +10,8 @@ use Rattle.terms.specs.Check.{alphabetRefusal}
 use Rattle.terms.specs.FormBytes.{ruleCount, formRefusal}
 use Rattle.terms.specs.Calls.{openingRefusal}
 use Rattle.terms.proofs.Refusal.{none-before, no-row}
-use Rattle.forms.proofs.Answers.{opening-passed}
-use Rattle.capi.specs.Result.{ruleRefusal}
+use Rattle.forms.proofs.Rules.{opening-passed}
+use Rattle.capi.specs.Result.{ruleCallRefusal}
 
 -- alphabet and form pass, there are seven places, and the form has the rule
 pub record RulePassed (alphabet form : List ℕ) (number room : ℕ) : Type 0 where
@@ -20,8 +20,8 @@ pub record RulePassed (alphabet form : List ℕ) (number room : ℕ) : Type 0 wh
   pub places : 7 ≤ room
   pub exists : number < ruleCount form
 
-pub rule-passed : (alphabet form : List ℕ) (number room : ℕ) → ruleRefusal alphabet form number room ≡ 0 → RulePassed alphabet form number room
-unfolding ruleRefusal
+pub rule-passed : (alphabet form : List ℕ) (number room : ℕ) → ruleCallRefusal alphabet form number room ≡ 0 → RulePassed alphabet form number room
+unfolding ruleCallRefusal
 rule-passed alphabet form number room e =
     let (opened, rest) = none-before (openingRefusal alphabet form) _ e in
     let (short, last) = no-row 18 (ltb room 7) _ rest in

@@ -7,9 +7,9 @@ use lib.ListN.{length, getD, drop}
 use Rattle.terms.specs.Refusal.{_when_, first}
 use Rattle.terms.specs.Sheet.{Verdict, accepted, declined}
 use Rattle.terms.specs.Calls.{markingRefusal}
-use Rattle.marking.specs.declared.tally.Tally.{Tally}
-use Rattle.marking.specs.Tally.{counts}
-use Rattle.marking.specs.Marking.{marking, counted}
+use Rattle.tallies.specs.declared.tally.Tally.{Tally}
+use Rattle.tallies.specs.Tally.{counts}
+use Rattle.tallies.specs.Counted.{marking, counted}
 
 -- the tally in the first three numbers of a list (01 Size, label, wrap, tally)
 abbrev pub tallyOf : List ℕ → Tally
@@ -25,10 +25,10 @@ unfoldable pub markRefusal : List ℕ → List ℕ → ℕ → ℕ → ℕ
 markRefusal tally sheet room numbers = first (19 when (ltb (length tally) 3) ∷ markingRefusal (counts (tallyOf tally)) sheet room numbers ∷ [])
 
 -- the list of counts after marking where it is too short, and where it is not (01 Size, label, wrap, tally)
-abbrev pub tallyAfter : Bool → List ℕ → List ℕ → ℕ → ℕ → List ℕ
-tallyAfter true tally sheet room numbers = tally
-tallyAfter false tally sheet room numbers = counts (counted (marking (tallyOf tally) sheet room numbers) (tallyOf tally)) ++ drop 3 tally
+abbrev pub countsLeft : Bool → List ℕ → List ℕ → ℕ → ℕ → List ℕ
+countsLeft true tally sheet room numbers = tally
+countsLeft false tally sheet room numbers = counts (counted (marking (tallyOf tally) sheet room numbers) (tallyOf tally)) ++ drop 3 tally
 
 -- the list of counts after marking, its later numbers kept (01 Size, label, wrap, tally)
 unfoldable pub tallyLeft : List ℕ → List ℕ → ℕ → ℕ → List ℕ
-tallyLeft tally sheet room numbers = tallyAfter (ltb (length tally) 3) tally sheet room numbers
+tallyLeft tally sheet room numbers = countsLeft (ltb (length tally) 3) tally sheet room numbers

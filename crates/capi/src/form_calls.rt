@@ -1,12 +1,12 @@
 // The calls on a form.
-use forms::answer::Label;
-use forms::answer::Size;
-use forms::evaluate::Evaluation;
-use forms::evaluate::evaluate;
-use forms::label::label;
-use forms::size::size;
-use forms::unfold::Unfolding;
-use forms::unfold::unfold;
+use counting::answer::Size;
+use counting::size::size;
+use evaluation::evaluate::Evaluation;
+use evaluation::evaluate::evaluate;
+use labelling::answer::Label;
+use labelling::label::label;
+use unfolding::unfold::Unfolding;
+use unfolding::unfold::unfold;
 ghost use mathlib.Core.Path.{_≡_};
 ghost use lib.ListN.{length};
 ghost use Rattle.terms.specs.Tree.{preorder};
@@ -60,7 +60,7 @@ pub extern "C" fn ewf_unfold(
     }
 }
 
-// How many nodes the form's tree has; the largest number of 64 bits stands for "over".
+// How many nodes the form's tree has; the largest number of 64 bits represents "over".
 #[no_mangle]
 pub extern "C" fn ewf_size(alphabet: &[u8], form: &[u8], counts: &mut [u64], nodes: &mut u64) -> u8
     ensures refusal { λ r. ⌜ r ≡ sizeRefusal (now (alphabet .entry)) (now (form .entry)) (length (now (counts .entry))) ⌝ }

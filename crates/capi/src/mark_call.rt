@@ -1,15 +1,16 @@
 // Marking, with the tally as a slice of three counts: accepted, declined, turned away.
 use marking::answer::Mark;
-use marking::mark::mark;
-use marking::tally::Tally;
+use tallies::mark::mark;
+use tallies::tally::Tally;
 ghost use mathlib.Core.Path.{_≡_};
 ghost use mathlib.Core.List.{_++_};
 ghost use Prim.Native.Nat.{_≤_};
 ghost use lib.ListN.{length, drop};
 ghost use Rattle.terms.specs.Sheet.{sheetMask, sheetVerdict};
 ghost use Rattle.terms.specs.Calls.{markingRefusal};
-ghost use Rattle.marking.specs.Tally.{counts};
-ghost use Rattle.marking.specs.Marking.{marking, counted, SlicesLeft};
+ghost use Rattle.tallies.specs.Tally.{counts};
+ghost use Rattle.tallies.specs.Counted.{marking, counted};
+ghost use Rattle.marking.specs.Marking.{SlicesLeft};
 ghost use Rattle.capi.specs.Result.{resultAfter};
 ghost use Rattle.capi.specs.Mark.{tallyOf, verdictNumber, markRefusal, tallyLeft};
 

@@ -1,23 +1,23 @@
 // Reading a rule of a form.
+use form_bytes::layout;
+use form_bytes::rule::FormRule;
+use form_bytes::rule::rule_at;
 use forms::check::check_opening;
-use forms::layout;
-use forms::rule::FormRule;
-use forms::rule::rule_at;
 use terms::Rule;
 ghost use mathlib.Core.Path.{_≡_};
 ghost use mathlib.Core.List.{_++_};
 ghost use Prim.Native.Nat.{_≤_};
 ghost use lib.ListN.{length, drop};
 ghost use Rattle.terms.specs.Calls.{lentAfter};
-ghost use Rattle.forms.specs.Reading.{fieldsOf};
-ghost use Rattle.capi.specs.Result.{ruleNumbers, ruleRefusal};
+ghost use Rattle.form_bytes.specs.Fields.{fieldsAt};
+ghost use Rattle.capi.specs.Result.{ruleNumbers, ruleCallRefusal};
 
 // How many numbers a rule is: kind, terminal, hole and four slots.
 const NUMBERS: usize = 7;
 
 // What is refused of alphabet, form, number and the length of the slice; 0 where nothing is.
-fn rule_refusal(alphabet: &[u8], form: &[u8], number: usize, room: usize) -> u8
-    ensures { λ r. ⌜ r ≡ ruleRefusal (now (alphabet .entry)) (now (form .entry)) number room ⌝ }
+fn rule_call_refusal(alphabet: &[u8], form: &[u8], number: usize, room: usize) -> u8
+    ensures { λ r. ⌜ r ≡ ruleCallRefusal (now (alphabet .entry)) (now (form .entry)) number room ⌝ }
 {
     let refusal = check_opening(alphabet, form);
     if refusal != 0 {
@@ -49,10 +49,10 @@ fn write_numbers(read: FormRule, rule: &mut [u16])
 // Kind, terminal, hole and four slots of the rule of a number.
 #[no_mangle]
 pub extern "C" fn ewf_read_rule(alphabet: &[u8], form: &[u8], number: usize, rule: &mut [u16]) -> u8
-    ensures refusal { λ r. ⌜ r ≡ ruleRefusal (now (alphabet .entry)) (now (form .entry)) number (length (now (rule .entry))) ⌝ }
-    ensures rule { λ _. ⌜ now (rule .exit) ≡ lentAfter (ruleRefusal (now (alphabet .entry)) (now (form .entry)) number (length (now (rule .entry)))) (ruleNumbers (fieldsOf (now (form .entry)) number)) (now (rule .entry)) ⌝ }
+    ensures refusal { λ r. ⌜ r ≡ ruleCallRefusal (now (alphabet .entry)) (now (form .entry)) number (length (now (rule .entry))) ⌝ }
+    ensures rule { λ _. ⌜ now (rule .exit) ≡ lentAfter (ruleCallRefusal (now (alphabet .entry)) (now (form .entry)) number (length (now (rule .entry)))) (ruleNumbers (fieldsAt (now (form .entry)) number)) (now (rule .entry)) ⌝ }
 {
-    let refusal = rule_refusal(alphabet, form, number, rule.len());
+    let refusal = rule_call_refusal(alphabet, form, number, rule.len());
     if refusal != 0 {
         return refusal;
     }

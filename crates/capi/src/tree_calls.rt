@@ -1,8 +1,8 @@
 // The calls on a plain tree.
-use sheets::wrap::Wrapping;
-use sheets::wrap::wrap;
-use walking::answer::Walk;
-use walking::walk::walk;
+use plain_walk::answer::Walk;
+use plain_walk::walk::walk;
+use wrapping::wrap::Wrapping;
+use wrapping::wrap::wrap;
 ghost use mathlib.Core.Path.{_≡_};
 ghost use lib.ListN.{length};
 ghost use Rattle.terms.specs.Sheet.{wrapped};

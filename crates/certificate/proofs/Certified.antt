@@ -6,7 +6,7 @@ use native.Mathlib.Omega.{arith}
 use lib.ListN.{length, take}
 use Rattle.terms.specs.Tree.{Tree, preorder}
 use Rattle.terms.specs.Sheet.{alphabetOf, automatonOf, nodesOf, sheetTree}
-use Rattle.terms.specs.Check.{refusal}
+use Rattle.terms.specs.Check.{sheetRefusal}
 use Rattle.terms.specs.FormBytes.{ruleCount}
 use Rattle.terms.specs.Count.{sizeOf}
 use Rattle.terms.specs.Calls.{makingRefusal, formMask, mostWalked}
@@ -16,15 +16,15 @@ use Rattle.making.specs.Making.{refusalOf, Leaves}
 use Rattle.making.specs.declared.Making.{Making}
 use Rattle.making.specs.declared.Making.the-variants as making
 use Rattle.making.proofs.Formed.{form-of}
-use Rattle.forms.specs.Evaluation.{orMask}
-use Rattle.forms.specs.declared.unfold.Unfolding.{Unfolding}
-use Rattle.forms.specs.declared.unfold.Unfolding.the-variants.{Written}
-use Rattle.walking.specs.declared.answer.Walk.the-variants.{Mask}
+use Rattle.evaluation.specs.Evaluation.{evaluationAfter}
+use Rattle.unfolding.specs.declared.unfold.Unfolding.{Unfolding}
+use Rattle.unfolding.specs.declared.unfold.Unfolding.the-variants.{Written}
+use Rattle.plain_walk.specs.declared.answer.Walk.the-variants.{Mask}
 use Rattle.certificate.specs.Certify.{Slices, Walked, Ran, Follows, CallsMade, Certificate}
 use Rattle.certificate.specs.declared.certify.Answers.{Answers}
-use Rattle.certificate.proofs.Unfolded.{unfolds, tree-first}
+use Rattle.unfolding.proofs.Unfolded.{unfolds, tree-first}
 
-module _ (sheet : List ℕ) (answers : Answers) (form : List ℕ) (lent : Slices) (form′ : List ℕ) (left : Slices) (passes : refusal sheet ≡ 0) (room : 4 + 192 * nodesOf sheet ≤ length form) where
+module _ (sheet : List ℕ) (answers : Answers) (form : List ℕ) (lent : Slices) (form′ : List ℕ) (left : Slices) (passes : sheetRefusal sheet ≡ 0) (room : 4 + 192 * nodesOf sheet ≤ length form) where
   abbrev alphabet : List ℕ
   alphabet = alphabetOf sheet
 
@@ -59,7 +59,7 @@ module _ (sheet : List ℕ) (answers : Answers) (form : List ℕ) (lent : Slices
       mask = formMask alphabet automaton written;
       made = made;
       formed = formed;
-      evaluated = λ h. ran .evaluated ∙ ap (λ z. orMask z (formMask alphabet automaton written)) (demand .evaluated _ h);
+      evaluated = λ h. ran .evaluated ∙ ap (λ z. evaluationAfter z (formMask alphabet automaton written)) (demand .evaluated _ h);
       runs = demand .mask;
       unfolded = λ h k. (nodes-written h k, tree-written h k);
       walked = same-mask;

@@ -1,6 +1,5 @@
-pub mod Unfolded
 pub mod Handed
-pub mod Sheet
 pub mod Made
+pub mod Sheet
 pub mod Certified
-pub mod Restored
+pub mod Demand

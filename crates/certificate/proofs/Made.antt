@@ -10,9 +10,9 @@ use Rattle.terms.specs.Calls.{makingRefusal}
 use Rattle.making.specs.Making.{refusalOf, Leaves}
 use Rattle.making.specs.declared.Making.{Making}
 use Rattle.making.specs.declared.Making.the-variants.{Refused, Written}
-use Rattle.forms.specs.declared.evaluate.Evaluation.the-variants as evaluating
-use Rattle.forms.specs.declared.unfold.Unfolding.the-variants as nodes
-use Rattle.walking.specs.declared.answer.Walk.the-variants as walk
+use Rattle.evaluation.specs.declared.evaluate.Evaluation.the-variants as evaluating
+use Rattle.unfolding.specs.declared.unfold.Unfolding.the-variants as nodes
+use Rattle.plain_walk.specs.declared.answer.Walk.the-variants as walk
 use Rattle.certificate.specs.Certify.{Slices, Ran, Follows, CallsMade}
 use Rattle.certificate.specs.declared.certify.Answers.{Answers}
 

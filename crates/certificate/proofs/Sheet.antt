@@ -4,7 +4,7 @@ use mathlib.Core.List.{List}
 use Prim.Native.Nat.{ℕ, _-_, _≤_}
 use lib.ListN.{length, take, drop}
 use Rattle.terms.specs.Sheet.{bodyOffset, alphabetOf, automatonOf}
-use Rattle.terms.specs.Check.{refusal}
+use Rattle.terms.specs.Check.{sheetRefusal}
 use Rattle.terms.specs.Calls.{makingRefusal}
 use Rattle.terms.proofs.Refusal.{none-before}
 use Rattle.terms.proofs.Sheet.Bodies.{joined}
@@ -25,7 +25,7 @@ pub record Parts (sheet : List ℕ) : Type 0 where
 pub parts-of : (sheet : List ℕ) (room : ℕ) {m : Making} {n : ℕ} → m ≡ Written n → refusalOf m ≡ makingRefusal sheet room → Parts sheet
 unfolding makingRefusal
 parts-of sheet room e r =
-    let passed = sheet-passed sheet (none-before (refusal sheet) _ (sym (subst (λ (x : Making). refusalOf x ≡ makingRefusal sheet room) e r)) .0) in
+    let passed = sheet-passed sheet (none-before (sheetRefusal sheet) _ (sym (subst (λ (x : Making). refusalOf x ≡ makingRefusal sheet room) e r)) .0) in
     let bodies = joined sheet (passed .joined) in
     record {
       long = passed .long;

@@ -5,7 +5,7 @@ use Prim.Native.Nat.{ℕ, _+_, _*_, _≤_}
 use lib.ListN.{length, take}
 use Rattle.terms.specs.Tree.{preorder}
 use Rattle.terms.specs.Sheet.{alphabetOf, automatonOf, nodesOf, sheetTree}
-use Rattle.terms.specs.Check.{refusal}
+use Rattle.terms.specs.Check.{sheetRefusal}
 use Rattle.terms.specs.FormBytes.{ruleCount}
 use Rattle.terms.specs.Count.{sizeOf}
 use Rattle.terms.specs.Calls.{lentAfter, makingRefusal, evaluationRefusal, relationsOf, mostWalked, walkRefusal, walkMasks}
@@ -13,14 +13,14 @@ use Rattle.terms.specs.Demand.{FormOfSheet, MaskOfRuns}
 use Rattle.making.specs.Making.{refusalOf, Leaves}
 use Rattle.making.specs.declared.Making.{Making}
 use Rattle.making.specs.declared.Making.the-variants as making
-use Rattle.forms.specs.Evaluation.{evaluation}
-use Rattle.forms.specs.declared.evaluate.Evaluation.the-variants as evaluating
-use Rattle.forms.specs.declared.unfold.Unfolding.{Unfolding}
-use Rattle.forms.specs.declared.unfold.Unfolding.the-variants as nodes
-use Rattle.walking.specs.Walking.{walking}
-use Rattle.walking.specs.declared.answer.Walk.{Walk}
-use Rattle.walking.specs.declared.answer.Walk.the-variants as walk
-use Rattle.certificate.specs.Unfolded.{Unfolded}
+use Rattle.evaluation.specs.Evaluation.{evaluation}
+use Rattle.evaluation.specs.declared.evaluate.Evaluation.the-variants as evaluating
+use Rattle.unfolding.specs.declared.unfold.Unfolding.{Unfolding}
+use Rattle.unfolding.specs.declared.unfold.Unfolding.the-variants as nodes
+use Rattle.plain_walk.specs.Walking.{walking}
+use Rattle.plain_walk.specs.declared.answer.Walk.{Walk}
+use Rattle.plain_walk.specs.declared.answer.Walk.the-variants as walk
+use Rattle.unfolding.specs.Unfolding.{Unfolded}
 use Rattle.certificate.specs.declared.certify.Answers.{Answers}
 
 -- the slices that are lent besides the form's: the relations, the counts, the tree's bytes and the masks (01 Unfolding)
@@ -34,11 +34,6 @@ abbrev pub slices : List ℕ → List ℕ → List ℕ → List ℕ → Slices
 slices relations counts tree masks = record { relations = relations; counts = counts; tree = tree; masks = masks }
 
 -- What each call answers and leaves, whatever the sheet and the slices.
-
--- unfolding wrote no more nodes than the slice has bytes (01 Unfolding)
-abbrev pub Within : Unfolding → ℕ → Type 0
-Within (nodes.Refused n) room = Unit {0}
-Within (nodes.Written n) room = n ≤ room
 
 -- the walk over the bytes that unfolding wrote, or unfolding's refusal handed on (01 Unfolding)
 abbrev pub Walked : List ℕ → List ℕ → Unfolding → List ℕ → Walk → List ℕ → List ℕ → Type 0
@@ -98,4 +93,4 @@ pub record Certificate (sheet : List ℕ) (answers : Answers) (lent : Slices) (f
 
 -- demand 3, for every byte string that refusals 1 to 16 let through, whatever the slices held before (01 Unfolding)
 abbrev pub Certified : List ℕ → Answers → List ℕ → Slices → List ℕ → Slices → Type 0
-Certified sheet answers form lent form′ left = refusal sheet ≡ 0 → 4 + 192 * nodesOf sheet ≤ length form → Certificate sheet answers lent form′ left
+Certified sheet answers form lent form′ left = sheetRefusal sheet ≡ 0 → 4 + 192 * nodesOf sheet ≤ length form → Certificate sheet answers lent form′ left

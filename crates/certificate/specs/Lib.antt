@@ -1,3 +1,2 @@
-pub mod Unfolded
 pub mod Certify
-pub mod Restore
+pub mod Private

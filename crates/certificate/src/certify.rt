@@ -1,16 +1,17 @@
 // Form making, evaluation, unfolding and the plain walk in turn, over one sheet.
-use forms::evaluate::Evaluation;
-use forms::evaluate::evaluate;
-use forms::unfold::Unfolding;
-use forms::unfold::unfold;
+use checks::bytes::word;
+use checks::limits::CONTENTS;
+use evaluation::evaluate::Evaluation;
+use evaluation::evaluate::evaluate;
 use making::Making;
 use making::make_form;
-use sheets::bytes::word;
-use sheets::limits::CONTENTS;
-use walking::answer::Walk;
-use walking::walk::walk;
+use plain_walk::answer::Walk;
+use plain_walk::walk::walk;
+use unfolding::unfold::Unfolding;
+use unfolding::unfold::unfold;
 ghost use lib.ListN.{length};
-ghost use Rattle.certificate.specs.Certify.{slices, Within, Walked, Ran, CallsMade, Certified};
+ghost use Rattle.certificate.specs.Certify.{slices, Walked, Ran, CallsMade, Certified};
+ghost use Rattle.certificate.specs.Private.Within.{Within};
 
 // What the four calls answer.
 pub struct Answers {

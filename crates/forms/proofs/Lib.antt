@@ -1,10 +1,2 @@
-pub mod Answers
-pub mod Counted
-pub mod Front
 pub mod Laws
-pub mod Places
 pub mod Rules
-pub mod Slots
-pub mod Entry
-pub mod Entries
-pub mod Start

@@ -2,7 +2,7 @@
 use mathlib.Core.Path.{_≡_, refl, sym}
 use mathlib.Core.Logic.{_⊎_, inl, inr}
 use mathlib.Core.List.{List, []}
-use Prim.Native.Nat.{ℕ, zero, suc, _+_, _-_, _*_, _≤_, _<_}
+use Prim.Native.Nat.{ℕ, zero, suc, _+_, _-_, _≤_, _<_}
 use native.Mathlib.Nat.{eq-or-lt-of-le}
 use native.Mathlib.Omega.{arith}
 use lib.ListN.{length}
@@ -11,13 +11,14 @@ use Rattle.terms.specs.Grammar.{terminalRank}
 use Rattle.terms.specs.Form.{Rule, whole, pierced, filled, composed, ruleAt, Has, Slots, Fits}
 use Rattle.terms.specs.FormBytes.{ruleCount, ruleOffset, ruleByte, slotOf, ruleOfKind, formRule, formRules, formRefusal}
 use Rattle.terms.specs.Check.{alphabetRefusal}
-use Rattle.forms.specs.Counts.{Readable}
+use Rattle.terms.specs.Calls.{openingRefusal}
+use Rattle.terms.proofs.Refusal.{none-before}
 use Rattle.terms.proofs.Tabulate.{length-tabulate, getD-tabulate}
 use Rattle.terms.proofs.Sheet.Passed.{alphabet-passed}
 use Rattle.terms.proofs.Form.Bytes.{rank-le, FormPassed, form-passed}
 
 -- a slot of a row of slots
-slots-at : (rules : List Rule) (i n : ℕ) (slot : ℕ → ℕ) → Slots rules i (tabulate n slot) → (j : ℕ) → j < n → Has rules i 0 (slot j)
+pub slots-at : (rules : List Rule) (i n : ℕ) (slot : ℕ → ℕ) → Slots rules i (tabulate n slot) → (j : ℕ) → j < n → Has rules i 0 (slot j)
 unfolding tabulate
 slots-at rules i zero slot s j h = absurd (omega arith)
 slots-at rules i (suc n) slot s zero h = s .0
@@ -94,23 +95,6 @@ module _ (alphabet form : List ℕ) (a : alphabetRefusal alphabet ≡ 0) (e : fo
 
     -- what it names
 
-    -- kinds 0 and 1, where the numbers hold the counts of lower rules
-    module _ (counts : List ℕ) (room : 2 * i ≤ length counts) where
-      readable : (from to : ℕ) → from ≤ to → to ≤ 4 → ((j : ℕ) → from ≤ j → j < to → Has rules i 0 (slot j)) → Readable form counts i from to
-      readable from to b t has = record { long = rule-whole; order = b; few = t; low = λ j x y. omega (arith, has j x y .below) }
-
-      pub whole-readable : ruleByte form i 0 ≡ 0 → Readable form counts i 0 n
-      whole-readable k = readable 0 n (omega arith) (rank-low f) (λ j x. slots-at rules i n slot ((rw (is-whole k) at fits) .0) j)
-
-      pub left-readable : ruleByte form i 0 ≡ 1 → Readable form counts i 0 (h - 1)
-      left-readable k =
-          readable 0 (h - 1) (omega arith) (omega (arith, hole-within k .1, rank-low f)) (λ j x. slots-at rules i (h - 1) slot ((rw (is-pierced k) at fits) .0) j)
-
-      pub right-readable : ruleByte form i 0 ≡ 1 → Readable form counts i h n
-      right-readable k =
-          readable h n (hole-within k .1) (rank-low f)
-          (λ j x y. let e : h + (j - h) ≡ j = omega arith in rw e at (slots-at rules i (n - h) (λ j. slot (h + j)) ((rw (is-pierced k) at fits) .1) (j - h) (omega arith)))
-
     -- kinds 2 and 3
 
     pub filled-names : ruleByte form i 0 ≡ 2 → Has rules i 1 (slot 0) × Has rules i 0 (slot 1)
@@ -126,3 +110,10 @@ module _ (alphabet form : List ℕ) (a : alphabetRefusal alphabet ≡ 0) (e : fo
         go : (2 ≡ ruleByte form i 0) ⊎ (2 < ruleByte form i 0) → (slot 0 < i) × (slot 1 < i)
         go (inl e) = let p = filled-names (sym e) in (p .0 .below, p .1 .below)
         go (inr g) = let p = composed-names g in (p .0 .below, p .1 .below)
+
+-- what passes the opening
+pub opening-passed : (alphabet form : List ℕ) → openingRefusal alphabet form ≡ 0 → (alphabetRefusal alphabet ≡ 0) × (formRefusal alphabet form ≡ 0)
+unfolding openingRefusal
+opening-passed alphabet form e =
+    let (a, r) = none-before (alphabetRefusal alphabet) _ e in
+    (a, none-before (formRefusal alphabet form) 0 r .0)

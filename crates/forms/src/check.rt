@@ -7,8 +7,8 @@ ghost use Rattle.terms.specs.Grammar.{terminalRank};
 ghost use Rattle.terms.specs.FormBytes.{ruleCount, ruleOffset, slotOf, callsLower, unusedSlot, slotsFit, chainFits, kindFits, ruleFits, validFor, formRefusal};
 ghost use Rattle.terms.specs.Calls.{openingRefusal};
 ghost use Rattle.terms.specs.FormBytes.{slotFits};
-use crate::layout;
-use sheets::alphabet;
+use checks::alphabet;
+use form_bytes::layout;
 use terms::Rule;
 use terms::Terminal;
 
@@ -21,7 +21,7 @@ const SLOTS: u8 = 4;
 // What stands in a slot that is not used.
 const UNUSED_SLOT: u16 = 0xFFFF;
 
-// What stands for the terminal of a rule that has none.
+// What represents the terminal of a rule that has none.
 const NO_TERMINAL: u8 = 0xFF;
 
 // `called` is the number of a rule below `i` that has the rank `rank`.

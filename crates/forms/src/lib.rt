@@ -1,11 +1,3 @@
-// The calls on a one-hole form.
-pub mod answer;
+// The check of a one-hole form, and reading a rule by its number.
 pub mod check;
-mod counts;
-pub mod evaluate;
-pub mod label;
-pub mod layout;
-mod place;
 pub mod rule;
-pub mod size;
-pub mod unfold;

@@ -9,15 +9,16 @@ use Rattle.terms.specs.Grammar.{Rule}
 use Rattle.terms.specs.Form.{Rule as FormRule}
 use Rattle.terms.specs.FormBytes.{ruleOffset, headBytes}
 use Rattle.terms.specs.Sheet.{rulesBody}
+use Rattle.terms.proofs.Sheet.Passed.{alphabet-passed}
 use Rattle.terms.proofs.Form.Written.{only-bytes}
-use Rattle.terms.proofs.Model.Form.{madeForm}
-use Rattle.terms.proofs.Making.Result.{scanned-form, form-linear}
-use Rattle.terms.proofs.Making.Bytes.{made-from, made-bytes}
-use Rattle.making.specs.Bytes.{Holds, HeadWritten}
-use Rattle.making.specs.Rules.{Grammar, modelOf, RulesMade}
+use Rattle.skeletons.specs.Form.{madeForm}
+use Rattle.skeletons.proofs.Result.{scanned-form, form-linear}
+use Rattle.skeletons.proofs.Bytes.{made-from, made-bytes}
+use Rattle.cells.specs.Bytes.{Holds, HeadWritten}
+use Rattle.right_sides.specs.Rules.{Grammar, modelOf, RulesMade}
 use Rattle.making.specs.Making.{FormWritten}
-use Rattle.making.specs.declared.rules.Whole.{Whole}
-use Rattle.making.proofs.Held.{held-kept}
+use Rattle.right_sides.specs.declared.rules.Whole.{Whole}
+use Rattle.cells.proofs.Held.{held-kept}
 
 module _ {form alphabet body : List ℕ} {count : ℕ} (g : Grammar form alphabet body count) {form₁ : List ℕ} {w : Whole} (m : RulesMade form alphabet body form₁ w) where
   abbrev grammar : List Rule
@@ -61,7 +62,7 @@ module _ {form alphabet body : List ℕ} {count : ℕ} (g : Grammar form alphabe
 
     pub form-written : FormWritten alphabet grammar (ruleOffset (w .count .0)) form₂ form
     form-written =
-        let b = made-bytes alphabet grammar (g .alphabet) (g .proper) (g .few) in
+        let b = made-bytes alphabet grammar (alphabet-passed alphabet (g .alphabet)) (g .proper) (g .few) in
         rw (m .counted)
         record {
           bytes = bytes;

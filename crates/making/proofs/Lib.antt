@@ -1,15 +1,3 @@
-pub mod Pasted
-pub mod Held
-pub mod Standing
-pub mod Adding
-pub mod Putting
-pub mod Growing
-pub mod Terminals
-pub mod Instancing
-pub mod Children
-pub mod Scanning
-pub mod Lower
-pub mod Ruling
 pub mod Finishing
 pub mod SheetRead
 pub mod Formed

@@ -8,39 +8,39 @@ use lib.ListN.{length, take, drop, length-drop}
 use lib.Seq.{length-take-le}
 use Rattle.terms.specs.FormBytes.{ruleOffset}
 use Rattle.terms.specs.Sheet.{bodyOffset, body, alphabetOf, rulesBody, rulesOf, nodesOf}
-use Rattle.terms.specs.Check.{mostNodes, refusal}
+use Rattle.terms.specs.Check.{mostNodes, sheetRefusal}
 use Rattle.terms.specs.Calls.{makingRefusal}
 use Rattle.terms.proofs.Sheet.Bodies.{Joined, joined}
 use Rattle.terms.proofs.Sheet.Grammar.{rules-passed}
-use Rattle.terms.proofs.Sheet.Passed.{alphabet-passed, SheetPassed, sheet-passed}
+use Rattle.terms.proofs.Sheet.Passed.{SheetPassed, sheet-passed}
 use Rattle.sheets.specs.Sheet.{sheetAfter, sheetReading}
 use Rattle.sheets.specs.declared.sheet.Layout.{Layout}
 use Rattle.sheets.specs.declared.sheet.Reading.the-variants.{Refused, Sheet}
-use Rattle.making.specs.Rules.{Grammar}
+use Rattle.right_sides.specs.Rules.{Grammar}
 use Rattle.making.specs.Making.{FormWritten}
 
 module _ (s : List ℕ) (room : ℕ) where
   -- a sheet that is refused
   pub sheet-refused : (n : ℕ) → sheetReading s ≡ Refused n → (n ≡ makingRefusal s room) × (0 < n)
   unfolding makingRefusal
-  sheet-refused n e = go (refusal s) refl e
+  sheet-refused n e = go (sheetRefusal s) refl e
     where
-      go : (m : ℕ) → refusal s ≡ m → sheetAfter m s ≡ Refused n → (n ≡ makingRefusal s room) × (0 < n)
+      go : (m : ℕ) → sheetRefusal s ≡ m → sheetAfter m s ≡ Refused n → (n ≡ makingRefusal s room) × (0 < n)
       go zero t e = absurd (let z : _≡_ {A = ℕ} 0 1 = cc in omega arith)
       go (suc m) t e = let z : n ≡ suc m = cc in (rw t z, omega arith)
 
 -- a sheet that is read
 pub record SheetRead (s : List ℕ) (l : Layout) : Type 0 where
-  pub passed : refusal s ≡ 0
+  pub passed : sheetRefusal s ≡ 0
   pub terminals : l .terminals ≡ length (alphabetOf s)
   pub rules : l .rules ≡ length (rulesOf s)
   pub nodes : l .nodes ≡ nodesOf s
   pub automaton : l .automaton ≡ bodyOffset s 2
 
 pub sheet-read : (s : List ℕ) (l : Layout) → sheetReading s ≡ Sheet l → SheetRead s l
-sheet-read s l e = go (refusal s) refl e
+sheet-read s l e = go (sheetRefusal s) refl e
   where
-    go : (m : ℕ) → refusal s ≡ m → sheetAfter m s ≡ Sheet l → SheetRead s l
+    go : (m : ℕ) → sheetRefusal s ≡ m → sheetAfter m s ≡ Sheet l → SheetRead s l
     go zero t e = record { passed = t; terminals = cc; rules = cc; nodes = cc; automaton = cc }
     go (suc m) t e = absurd (let z : _≡_ {A = ℕ} 0 1 = cc in omega arith)
 
@@ -89,7 +89,7 @@ module _ {s : List ℕ} {l : Layout} (r : SheetRead s l) where
       let p = rules-passed (alphabetOf s) (body s 1) (passed .rules) in
       rw (a, b)
       record {
-        alphabet = alphabet-passed (alphabetOf s) (passed .alphabet);
+        alphabet = passed .alphabet;
         proper = p .proper;
         count = r .rules;
         few = p .few-nodes;

@@ -1,8 +1,2 @@
-pub mod Bytes
-pub mod Cells
-pub mod State
-pub mod Grow
-pub mod Inst
-pub mod Side
-pub mod Rules
 pub mod Making
+pub mod Private

@@ -5,18 +5,15 @@ use Prim.Native.Nat.{ℕ, _*_, _<_, _≤_}
 use lib.ListN.{length, take, drop}
 use Rattle.terms.specs.Grammar.{Rule, nodeCount, derived}
 use Rattle.terms.specs.Form.{formBound}
-use Rattle.terms.specs.FormBytes.{ruleCount, ruleOffset, formTree, formRefusal}
+use Rattle.terms.specs.FormBytes.{ruleCount, formTree, formRefusal}
 use Rattle.terms.specs.Sheet.{alphabetOf, rulesOf}
-use Rattle.terms.proofs.Model.Form.{madeForm}
-use Rattle.sheets.specs.Sheet.{sheetReading}
-use Rattle.sheets.specs.declared.sheet.Layout.{Layout}
-use Rattle.sheets.specs.declared.sheet.Reading.the-variants.{Sheet}
+use Rattle.skeletons.specs.Form.{madeForm}
 use Rattle.making.specs.declared.Making.{Making}
 use Rattle.making.specs.declared.Making.the-variants.{Refused, Written}
 
 -- the first n bytes of a slice are a form of a grammar, no longer than both bounds, and the later ones are kept (01 One-hole form)
 pub record FormWritten (alphabet : List ℕ) (grammar : List Rule) (n : ℕ) (exit entry : List ℕ) : Type 0 where
-  -- the bytes hang on the sheet alone, whatever the slice held
+  -- the bytes depend on the sheet alone, whatever the slice held
   pub bytes : take n exit ≡ madeForm alphabet grammar
   pub accepted : formRefusal alphabet (take n exit) ≡ 0
   pub tree : formTree alphabet (take n exit) ≡ derived alphabet grammar
@@ -24,11 +21,6 @@ pub record FormWritten (alphabet : List ℕ) (grammar : List Rule) (n : ℕ) (ex
   pub linear : ruleCount (take n exit) ≤ 16 * nodeCount grammar
   pub within : n ≤ length entry
   pub kept : drop n exit ≡ drop n entry
-
--- the sheet was read as the layout, and the slice has room for the rules that it asks for (01 One-hole form)
-pub record ReadWithRoom (sheet : List ℕ) (layout : Layout) (room : ℕ) : Type 0 where
-  pub read : sheetReading sheet ≡ Sheet layout
-  pub fits : ruleOffset (16 * layout .nodes) ≤ room
 
 -- the number of a refusal, 0 where a form is written (01 Refusals)
 abbrev pub refusalOf : Making → ℕ

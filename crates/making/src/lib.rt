@@ -1,18 +1,10 @@
 // Making a one-hole form from a sheet.
-mod cells;
-mod grow;
-mod inst;
-mod put;
-mod rules;
-mod side;
-mod state;
-mod write;
 
-use crate::rules::make_rules;
-use crate::write::write_head;
-use forms::layout::HEAD;
-use forms::layout::RULE;
-use sheets::limits::CONTENTS;
+use cells::write::write_head;
+use checks::limits::CONTENTS;
+use form_bytes::layout::HEAD;
+use form_bytes::layout::RULE;
+use right_sides::rules::make_rules;
 use sheets::sheet::Layout;
 use sheets::sheet::Reading;
 use sheets::sheet::read_sheet;
@@ -20,8 +12,9 @@ ghost use mathlib.Core.Path.{_≡_};
 ghost use lib.ListN.{length};
 ghost use Rattle.terms.specs.Calls.{makingRefusal};
 ghost use Rattle.terms.specs.Sheet.{alphabetOf, rulesBody, rulesOf};
-ghost use Rattle.making.specs.Rules.{Grammar};
-ghost use Rattle.making.specs.Making.{FormWritten, ReadWithRoom, refusalOf, Leaves};
+ghost use Rattle.right_sides.specs.Rules.{Grammar};
+ghost use Rattle.making.specs.Making.{FormWritten, refusalOf, Leaves};
+ghost use Rattle.making.specs.Private.Read.{ReadWithRoom};
 
 // How many rules of a form a node of a sheet may take.
 pub const RULES_FOR_NODE: usize = 16;

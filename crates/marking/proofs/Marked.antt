@@ -1,14 +1,16 @@
 -- What marking a sheet answers and leaves, by what was read of it and by the lengths of the slices.
 use mathlib.Core.Path.{_≡_, refl, sym, ap, _∙_}
+use mathlib.Core.Bool.{false}
 use mathlib.Core.List.{List, []}
 use Prim.Native.Nat.{ℕ, zero, suc, _*_, _-_, _≤_, _<_}
 use native.Mathlib.Omega.{arith}
 use borrow.Author.Tests.{lt-ltb, le-ltb}
 use lib.ListN.{length, take, drop}
+use Rattle.terms.specs.Test.{any}
 use Rattle.terms.specs.Tree.{preorder}
 use Rattle.terms.specs.Sheet.{alphabetOf, rulesOf, automatonOf, finals, Verdict, sheetTree, sheetMask, sheetVerdict}
 use Rattle.terms.specs.FormBytes.{ruleOffset}
-use Rattle.terms.specs.Calls.{lentAfter, rulesAsked, markingRefusal, makingRefusal, evaluationRefusal, relationsOf, formMask, walkMask}
+use Rattle.terms.specs.Calls.{lentAfter, rulesAsked, full, markingRefusal, makingRefusal, evaluationRefusal, relationsOf, formMask, walkMask}
 use Rattle.terms.specs.Demand.{FormOfSheet, Demand3}
 use Rattle.terms.proofs.Refusal.{is-first}
 use Rattle.terms.proofs.Demand.{walk-answers, form-meets}
@@ -21,8 +23,8 @@ use Rattle.making.proofs.Formed.{form-of}
 use Rattle.making.proofs.SheetRead.{SheetRead, too-short, long-enough}
 use Rattle.marking.specs.declared.answer.Mark.{Mark}
 use Rattle.marking.specs.declared.answer.Mark.the-variants.{Refused}
-use Rattle.marking.specs.Marking.{orVerdict, verdictOn, SlicesLeft}
-use Rattle.marking.proofs.Full.{none-full}
+use Rattle.marking.specs.Marking.{orVerdict, SlicesLeft}
+use Rattle.marking.specs.Private.Verdict.{verdictOn}
 
 -- The answer and the slices, by the refusal.
 
@@ -41,6 +43,11 @@ module _ {refusal : ℕ} (sheet form relations : List ℕ) (verdict : Verdict) (
   marks e a l = rw (← e) (a, l)
 
 -- What marking refuses of a sheet.
+
+-- where no counts are looked at, none is full
+pub none-full : any full [] ≡ false
+unfolding any
+none-full = refl
 
 module _ (s : List ℕ) (room numbers : ℕ) where
   -- form making's refusal

@@ -10,7 +10,7 @@ use Rattle.terms.proofs.Test.{of-true, some-in, some-cong}
 use Rattle.terms.proofs.Automaton.Bits.{set-cong, set-whole}
 use Rattle.relations.proofs.Laws.{has-and}
 use Rattle.marking.specs.declared.answer.Mark.the-variants.{Accepted, Declined}
-use Rattle.marking.specs.Marking.{verdictOn}
+use Rattle.marking.specs.Private.Verdict.{verdictOn}
 
 none-in : (n : ℕ) (f : ℕ → Bool) → some n f ≡ false → (q : ℕ) → q < n → f q ≡ false
 none-in n f e q h = go (f q) refl

@@ -1,3 +1,2 @@
-pub mod Tally
 pub mod Marking
-pub mod Lists
+pub mod Private

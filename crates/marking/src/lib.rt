@@ -1,4 +1,3 @@
-// The tally, and marking a sheet.
+// Marking a sheet: reading it, making its form and evaluating that.
 pub mod answer;
 pub mod mark;
-pub mod tally;

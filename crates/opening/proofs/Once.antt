@@ -11,7 +11,7 @@ use Rattle.terms.specs.Refusal.{_when_, orElse}
 use Rattle.terms.specs.FormBytes.{ruleCount, ruleOffset}
 use Rattle.terms.specs.Calls.{openingRefusal, readingRefusal}
 use Rattle.forms.specs.Reading.{ruleReading}
-use Rattle.forms.proofs.Answers.{opening-passed}
+use Rattle.forms.proofs.Rules.{opening-passed}
 use Rattle.forms.proofs.Rules.{rule-whole}
 use Rattle.opening.specs.declared.OpenForm.{OpenForm}
 use Rattle.opening.specs.Opening.{openedRules, openedReading}

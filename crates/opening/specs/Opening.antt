@@ -6,7 +6,8 @@ use lib.ListN.{length}
 use Rattle.terms.specs.Refusal.{_when_, first}
 use Rattle.terms.specs.FormBytes.{ruleCount, ruleOffset}
 use Rattle.forms.specs.declared.rule.RuleReading.{RuleReading}
-use Rattle.forms.specs.Reading.{fieldsOf, orRule}
+use Rattle.form_bytes.specs.Fields.{fieldsAt}
+use Rattle.forms.specs.Reading.{orRule}
 
 -- how many rules of a form can be read: R, or none where opening refused it (01 One-hole form)
 abbrev pub openedRules : List ℕ → ℕ → ℕ
@@ -19,4 +20,4 @@ openedRefusal form rules refusal i = first (refusal ∷ 21 when (leb rules i) �
 
 -- the refusal, or that rule's kind, terminal, hole and four slots (01 One-hole form)
 abbrev pub openedReading : List ℕ → ℕ → ℕ → ℕ → RuleReading
-openedReading form rules refusal i = orRule (openedRefusal form rules refusal i) (fieldsOf form i)
+openedReading form rules refusal i = orRule (openedRefusal form rules refusal i) (fieldsAt form i)

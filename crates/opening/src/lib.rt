@@ -1,7 +1,7 @@
 // Opening a one-hole form, which is done once, and reading its rules by number.
+use form_bytes::layout;
+use form_bytes::rule::rule_at;
 use forms::check;
-use forms::layout;
-use forms::rule;
 use forms::rule::RuleReading;
 use terms::Rule;
 ghost use mathlib.Core.Path.{_≡_};
@@ -53,7 +53,7 @@ pub fn rule_of(form: &[u8], rules: usize, refusal: u8, number: Rule) -> RuleRead
     if form.len() < layout::HEAD + layout::RULE * place + layout::RULE {
         return RuleReading::Refused(NO_RULE);
     }
-    RuleReading::Read(rule::rule_at(form, number))
+    RuleReading::Read(rule_at(form, number))
 }
 
 // Opens a form: refused by 3 and 4 for the alphabet, 18 for the form.

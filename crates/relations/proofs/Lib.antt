@@ -2,8 +2,3 @@ pub mod Laws
 pub mod Matrix
 pub mod Lanes
 pub mod Fold
-pub mod Linking
-pub mod Leads
-pub mod Walking
-pub mod Checked
-pub mod Node

@@ -6,8 +6,6 @@ ghost use Rattle.terms.specs.Automaton.{has};
 ghost use Rattle.terms.specs.Relation.{matrix, related, composeBits, applyBits};
 ghost use Rattle.relations.specs.Spread.{Spreads};
 
-pub mod links;
-pub mod step;
 pub mod table;
 
 // Every state of `from` to every state of `to`: a lane with a 1 for each state of `from`, times `to`.

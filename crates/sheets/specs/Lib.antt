@@ -1,3 +1,2 @@
-pub mod Reading
 pub mod Sheet
-pub mod Wrap
+pub mod Private

@@ -1,19 +1,11 @@
 -- What reading a sheet answers (document 01, "Sheet" and "Refusals with a sheet for each").
-use mathlib.Core.List.{List, [], _∷_}
+use mathlib.Core.List.{List}
 use Prim.Native.Nat.{ℕ, zero, suc}
 use lib.ListN.{length}
-use Rattle.terms.specs.Refusal.{first}
-use Rattle.terms.specs.Sheet.{alphabetOf, rulesBody, rulesOf, nodesOf, bodyOffset}
-use Rattle.terms.specs.Check.{alphabetRefusal, rulesRefusal, automatonRefusal, refusal}
-use Rattle.sheets.specs.Reading.{reading}
-use Rattle.sheets.specs.declared.rules.Rules.{Rules}
+use Rattle.terms.specs.Sheet.{alphabetOf, rulesOf, nodesOf, bodyOffset}
+use Rattle.terms.specs.Check.{sheetRefusal}
 use Rattle.sheets.specs.declared.sheet.Reading.{Reading}
 use Rattle.sheets.specs.declared.sheet.Reading.the-variants.{Refused, Sheet}
-
--- the answer to three bodies (01 Refusals, 3 to 16)
-abbrev pub bodiesReading : List ℕ → List ℕ → List ℕ → Rules
-bodiesReading alphabet rules automaton =
-    reading (first (alphabetRefusal alphabet ∷ rulesRefusal alphabet rules ∷ automatonRefusal alphabet automaton ∷ [])) (rulesBody rules .rules)
 
 -- the answer of a refusal, or of none with where the bodies lie and the counts of terminals, rules and right-side nodes (01 Sheet)
 abbrev pub sheetAfter : ℕ → List ℕ → Reading
@@ -22,4 +14,4 @@ sheetAfter (suc n) s = Refused (suc n)
 
 -- the answer to a sheet (01 Refusals, 1 to 16)
 abbrev pub sheetReading : List ℕ → Reading
-sheetReading s = sheetAfter (refusal s) s
+sheetReading s = sheetAfter (sheetRefusal s) s

@@ -1,18 +1,19 @@
 // Reading a sheet of any length: what is refused of it, or where its bodies lie.
-use crate::alphabet::check_alphabet;
-use crate::automaton::check_automaton;
-use crate::bytes::word;
-use crate::limits::CONTENTS;
-use crate::limits::LONGEST_SHEET;
-use crate::rules::Rules;
-use crate::rules::read_rules;
+use checks::alphabet::check_alphabet;
+use checks::automaton::check_automaton;
+use checks::bytes::word;
+use checks::limits::CONTENTS;
+use checks::limits::LONGEST_SHEET;
+use grammars::rules::Rules;
+use grammars::rules::read_rules;
 ghost use mathlib.Core.Path.{_≡_};
 ghost use mathlib.Core.Bool.{true};
 ghost use Prim.Native.Nat.{_≤_};
 ghost use lib.ListN.{length};
 ghost use Rattle.terms.specs.Sheet.{body};
 ghost use Rattle.terms.specs.Check.{joins};
-ghost use Rattle.sheets.specs.Sheet.{sheetReading, bodiesReading};
+ghost use Rattle.sheets.specs.Sheet.{sheetReading};
+ghost use Rattle.sheets.specs.Private.Bodies.{bodiesReading};
 
 // Where the bodies of a sheet lie, and how much they hold: the alphabet follows the contents with a byte for each
 // terminal, the rules follow the alphabet, and the automaton follows the rules to the end.

@@ -11,8 +11,8 @@ use Rattle.terms.specs.Tree.{Tree, preorder, wholes}
 use Rattle.terms.specs.Grammar.{terminalRank}
 use Rattle.terms.specs.Automaton.{mask}
 use Rattle.terms.specs.Form.{Rule, closed, valueAt}
-use Rattle.terms.specs.Sheet.{body, alphabetOf, automatonOf, rulesOf, nodesOf, transitionsOf, sheetTree}
-use Rattle.terms.specs.Check.{isOne, isTree, treeRefusal, refusal}
+use Rattle.terms.specs.Sheet.{alphabetOf, automatonOf, rulesOf, transitionsOf, sheetTree}
+use Rattle.terms.specs.Check.{isOne, isTree, treeRefusal, sheetRefusal}
 use Rattle.terms.specs.FormBytes.{ruleCount, startOf, ruleOffset, formRules, formTree}
 use Rattle.terms.specs.Count.{sizeOf}
 use Rattle.terms.specs.Calls.{rulesAsked, makingRefusal, openingRefusal, evaluationRefusal, formMask, sizeRefusal, unfoldingRefusal, mostWalked, walkRefusal, walkMask}
@@ -24,12 +24,9 @@ use Rattle.terms.proofs.Grammar.Derivation.{derived-over, derived-ranke
 use Rattle.terms.proofs.Form.Value.{derives-tree}
 use Rattle.terms.proofs.Form.Bytes.{FormPassed, form-passed}
 use Rattle.terms.proofs.Automaton.Table.{start-mask, start-run}
-use Rattle.terms.proofs.Model.Form.{madeForm}
-use Rattle.terms.proofs.Making.Bytes.{made-bytes}
-use Rattle.terms.proofs.Sheet.Grammar.{rules-passed}
 use Rattle.terms.proofs.Sheet.Passed.{SheetPassed, sheet-passed, alphabet-passed, sheet-proper, sheet-small}
 
-module _ (sheet : List ℕ) (passes : refusal sheet ≡ 0) where
+module _ (sheet : List ℕ) (passes : sheetRefusal sheet ≡ 0) where
   abbrev alphabet : List ℕ
   alphabet = alphabetOf sheet
 
@@ -113,12 +110,3 @@ module _ (sheet : List ℕ) (passes : refusal sheet ≡ 0) where
       walked = walk-passes;
       same = walk-answers ∙ sym mask-is;
     }
-
--- every sheet that refusals 1 to 16 let through has a form of which demand 3 holds: the one that is made
-pub demand-three : (sheet : List ℕ) → refusal sheet ≡ 0 → Demand3 sheet (madeForm (alphabetOf sheet) (rulesOf sheet))
-unfolding sheetTree nodesOf rulesOf
-demand-three sheet passes =
-    let p = sheet-passed sheet passes in
-    let rules = rules-passed (alphabetOf sheet) (body sheet 1) (p .rules) in
-    let made = made-bytes (alphabetOf sheet) (rulesOf sheet) (alphabet-passed (alphabetOf sheet) (p .alphabet)) (rules .proper) (rules .few-nodes) in
-    form-meets sheet passes (madeForm (alphabetOf sheet) (rulesOf sheet)) (record { valid = made .accepted; tree = made .tree; few = made .linear })

@@ -12,7 +12,7 @@ use Rattle.terms.specs.Automaton.{mask}
 use Rattle.terms.specs.Relation.{relationAt}
 use Rattle.terms.specs.Form.{valueAt}
 use Rattle.terms.specs.Sheet.{nodesOf, transitionsOf, wrapped}
-use Rattle.terms.specs.Check.{alphabetRefusal, automatonRefusal, treeRefusal, refusal, mostNodes}
+use Rattle.terms.specs.Check.{alphabetRefusal, automatonRefusal, treeRefusal, sheetRefusal, mostNodes}
 use Rattle.terms.specs.FormBytes.{ruleCount, startOf, ruleOffset, formRules, formTree, formRefusal}
 use Rattle.terms.specs.Count.{ownNodes, nodesBefore, sizeOf, capped}
 
@@ -31,9 +31,9 @@ rulesAsked s = 16 * nodesOf s
 
 -- form making: 1 to 16, 17 (01 Refusals)
 unfoldable pub makingRefusal : List ℕ → ℕ → ℕ
-makingRefusal s room = first (refusal s ∷ 17 when (ltb room (ruleOffset (rulesAsked s))) ∷ [])
+makingRefusal s room = first (sheetRefusal s ∷ 17 when (ltb room (ruleOffset (rulesAsked s))) ∷ [])
 
--- a count of the tally that can not move on (01 Refusals, 25)
+-- a count of the tally that cannot move on (01 Refusals, 25)
 abbrev pub full : ℕ → Bool
 full n = eqb n (2 ^ 32 - 1)
 

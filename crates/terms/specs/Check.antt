@@ -7,7 +7,7 @@ use lib.ListN.{length}
 use Rattle.terms.specs.Test.{all, every, tabulate}
 use Rattle.terms.specs.Refusal.{_when_, first, outside}
 use Rattle.terms.specs.Tree.{Wholes, exactly, lacking, wholes}
-use Rattle.terms.specs.Grammar.{Name, terminal, nonterminal, parameter, nothing, name, Rule, ruleAt, ruleRank, terminalRank, rankIn, allAllowed, isParameter, over, nodeCount}
+use Rattle.terms.specs.Grammar.{Name, terminal, nonterminal, parameter, nothing, name, Rule, ruleAt, ruleRank, terminalRank, rankIn, allAllowed, isParameter, sumOver, nodeCount}
 use Rattle.terms.specs.Sheet.{contentsLength, bodyOffset, bodyLength, body, alphabetOf, rulesBody, automatonOf, stateCount, finals, transitionCount, transitionByte}
 
 -- The limits.
@@ -120,7 +120,7 @@ ruleRefusal alphabet rules i =
     8 when (ltb highestRank rank)
     ∷ 9 when (not (allAllowed alphabet i rank nodes))
     ∷ 10 when (not (isOne (wholes (rankIn alphabet rules) nodes)))
-    ∷ 11 when (not (every rank (λ j. eqb (over (isParameter j) nodes) 1)))
+    ∷ 11 when (not (every rank (λ j. eqb (sumOver (isParameter j) nodes) 1)))
     ∷ 12 when (lone nodes)
     ∷ [])
 
@@ -148,8 +148,8 @@ joins s =
     && eqb (length s) (bodyOffset s 2 + bodyLength s 2)))
 
 -- the refusal of a sheet, 0 where it passes 1 to 16 (01 Refusals)
-unfoldable pub refusal : List ℕ → ℕ
-refusal s = first (
+unfoldable pub sheetRefusal : List ℕ → ℕ
+sheetRefusal s = first (
     1 when (outside contentsLength longestSheet (length s))
     ∷ 2 when (not (joins s))
     ∷ alphabetRefusal (alphabetOf s)

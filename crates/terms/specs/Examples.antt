@@ -4,7 +4,7 @@ use Prim.Native.Nat.{ℕ, zero, suc, _-_, _^_, _/_, _%_}
 use lib.ListN.{take, drop, set, replicate}
 use Rattle.terms.specs.Tree.{preorder}
 use Rattle.terms.specs.Sheet.{nodesOf, Verdict, accepted, declined, sheetTree, sheetMask, sheetVerdict, wrapped}
-use Rattle.terms.specs.Check.{refusal}
+use Rattle.terms.specs.Check.{sheetRefusal}
 use Rattle.terms.specs.FormBytes.{formTree}
 use Rattle.terms.specs.Count.{Size, exact, sizeOf, sizeAnswer}
 use Rattle.terms.specs.Calls.{makingRefusal, markingRefusal, openingRefusal, readingRefusal, evaluationRefusal, relationsOf, formMask, sizeRefusal, unfoldingRefusal, labelRefusal, labelAt, countsOf, walkRefusal, walkMask, walkMasks, wrapRefusal}
@@ -31,7 +31,7 @@ outcomeAfter s (suc n) = refused (suc n)
 
 -- what comes out for a sheet (01 Sheets for the desk)
 unfoldable pub outcome : List ℕ → Outcome
-outcome s = outcomeAfter s (refusal s)
+outcome s = outcomeAfter s (sheetRefusal s)
 
 -- a sheet and what must come out (01 Sheets for the desk)
 pub record SheetRow : Type 0 where

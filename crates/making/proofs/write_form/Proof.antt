@@ -4,6 +4,13 @@ use borrow.Author.Needs.{needs}
 use Rattle.making.proofs.write_form.Statement.{statement}
 use Rattle.making.proofs.write_form.Tie as tie
 
+abbrev begin : tie.After-make-rules-arg → tie.Start
+begin c = c .before .before .before .before
+
+-- the rules are made; what follows reads their number and the start
+abbrev made : tie.After-start → tie.After-make-rules
+made c = c .before .before .before .before
+
 make-rules-requires : tie.Need-make-rules-requires
 make-rules-requires c κs = search needs
 
@@ -12,8 +19,8 @@ cast-count c = search needs
 
 write-head-requires : tie.Need-write-head-requires
 write-head-requires c κs =
-    let made = c .before .before .before .before .before in
-    head-fits (made .before .before .before .before .before .pre) (made .make-rules .ensures)
+    let rules = made (c .before) in
+    head-fits (begin (rules .before) .pre) (rules .make-rules .ensures)
 
 mul-result : tie.Need-mul-result
 mul-result c = search needs
@@ -27,8 +34,8 @@ same-length c = search needs
 returns : tie.Need-returns
 returns c =
     let head = c .before .before in
-    let made = head .before .before .before .before .before .before in
-    form-written (made .before .before .before .before .before .pre) (made .make-rules .ensures) (head .write-head .ensures)
+    let rules = made (head .before .before) in
+    form-written (begin (rules .before) .pre) (rules .make-rules .ensures) (head .write-head .ensures)
 
 pub write-form-spec : {M : Type 1} → statement M
 write-form-spec =

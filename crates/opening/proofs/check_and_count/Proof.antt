@@ -3,7 +3,7 @@ use mathlib.Core.Path.{_≡_, refl, sym, _∙_}
 use Prim.Native.Nat.{ℕ, zero, suc}
 use mathlib.Core.List.{List}
 use Rattle.opening.specs.Opening.{openedRules}
-use Rattle.forms.proofs.Answers.{opening-passed}
+use Rattle.forms.proofs.Rules.{opening-passed}
 use Rattle.forms.proofs.Rules.{head-long}
 use Rattle.opening.proofs.check_and_count.Statement.{statement}
 use Rattle.opening.proofs.check_and_count.Tie as tie

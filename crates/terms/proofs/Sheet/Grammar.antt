@@ -11,7 +11,7 @@ use borrow.Author.Tests.{ltb-true, ltb-false, eqb-true, eqb-false, not-false, ne
 use Rattle.terms.specs.Test.{all, every, tabulate}
 use Rattle.terms.specs.Refusal.{first}
 use Rattle.terms.specs.Tree.{Wholes, exactly, lacking, wholes}
-use Rattle.terms.specs.Grammar.{Name, terminal, nonterminal, parameter, nothing, name, Rule, ruleAt, ruleRank, rankIn, allowed, allAllowed, isParameter, over, nodeCount, ProperRule, Proper}
+use Rattle.terms.specs.Grammar.{Name, terminal, nonterminal, parameter, nothing, name, Rule, ruleAt, ruleRank, rankIn, allowed, allAllowed, isParameter, sumOver, nodeCount, ProperRule, Proper}
 use Rattle.terms.specs.Sheet.{rulesBody}
 use Rattle.terms.specs.Check.{isOne, lone, ruleRefusal, rulesRefusal}
 use Rattle.terms.proofs.Test.{is-true, of-true, both-0, both-1, or-false, every-at}
@@ -29,21 +29,21 @@ name-once alphabet i n j h (nonterminal r) p = refl
 name-once alphabet i n j h (parameter k) p = rw (ne-eqb j k (λ e. omega (arith, ltb-true k n (is-true (ltb k n) p))))
 name-once alphabet i n j h nothing p = refl
 
-over-none : (alphabet : List ℕ) (i n j : ℕ) → n ≤ j → (ms : List ℕ) → T (allAllowed alphabet i n ms) → over (isParameter j) ms ≡ 0
+sum-over-none : (alphabet : List ℕ) (i n j : ℕ) → n ≤ j → (ms : List ℕ) → T (allAllowed alphabet i n ms) → sumOver (isParameter j) ms ≡ 0
 unfolding all
-over-none alphabet i n j h [] p = refl
-over-none alphabet i n j h (m ∷ ms) p =
+sum-over-none alphabet i n j h [] p = refl
+sum-over-none alphabet i n j h (m ∷ ms) p =
     let a = allowed alphabet i n (name m) in
     let b = allAllowed alphabet i n ms in
-    omega (arith, name-once alphabet i n j h (name m) (both-0 a b p), over-none alphabet i n j h ms (both-1 a b p))
+    omega (arith, name-once alphabet i n j h (name m) (both-0 a b p), sum-over-none alphabet i n j h ms (both-1 a b p))
 
-at-most-once : (alphabet : List ℕ) (i n j : ℕ) (ms : List ℕ) → T (allAllowed alphabet i n ms) → (j < n → over (isParameter j) ms ≡ 1)
-    → over (isParameter j) ms ≤ 1
+at-most-once : (alphabet : List ℕ) (i n j : ℕ) (ms : List ℕ) → T (allAllowed alphabet i n ms) → (j < n → sumOver (isParameter j) ms ≡ 1)
+    → sumOver (isParameter j) ms ≤ 1
 at-most-once alphabet i n j ms known exact = go (decLt j n)
   where
-    go : Dec (j < n) → over (isParameter j) ms ≤ 1
+    go : Dec (j < n) → sumOver (isParameter j) ms ≤ 1
     go (yes h) = omega (arith, exact h)
-    go (no h) = omega (arith, over-none alphabet i n j (omega arith) ms known)
+    go (no h) = omega (arith, sum-over-none alphabet i n j (omega arith) ms known)
 
 pos-of-ne : (n : ℕ) → (n ≡ 0 → ⊥) → 0 < n
 pos-of-ne zero h = absurd (h refl)
@@ -52,7 +52,7 @@ pos-of-ne (suc n) h = omega arith
 -- what is known of a rule that passes 8 to 12
 pub record RulePassed (alphabet : List ℕ) (rules : List Rule) (i : ℕ) : Type 0 where
   pub proper : ProperRule alphabet rules i
-  pub exactly-once : (j : ℕ) → j < ruleRank rules i → over (isParameter j) (ruleAt rules i .nodes) ≡ 1
+  pub exactly-once : (j : ℕ) → j < ruleRank rules i → sumOver (isParameter j) (ruleAt rules i .nodes) ≡ 1
   pub not-lone : lone (ruleAt rules i .nodes) ≡ false
 
 pub rule-passed : (alphabet : List ℕ) (rules : List Rule) (i : ℕ) → ruleRefusal alphabet rules i ≡ 0 → RulePassed alphabet rules i
@@ -60,7 +60,7 @@ unfolding ruleRefusal
 rule-passed alphabet rules i e =
     let n = ruleRank rules i in
     let nodes = ruleAt rules i .nodes in
-    let once : ℕ → Bool = λ j. eqb (over (isParameter j) nodes) 1 in
+    let once : ℕ → Bool = λ j. eqb (sumOver (isParameter j) nodes) 1 in
     let whole = isOne (wholes (rankIn alphabet rules) nodes) in
     let (e8, r8) = no-row 7 (ltb 4 n) _ e in
     let (e9, r9) = no-row 8 (not (allAllowed alphabet i n nodes)) _ r8 in
@@ -68,7 +68,7 @@ rule-passed alphabet rules i e =
     let (e11, r11) = no-row 10 (not (every n once)) _ r10 in
     let e12 = no-row 11 (lone nodes) _ r11 .0 in
     let known = of-true (allAllowed alphabet i n nodes) (not-false _ e9) in
-    let exact : (j : ℕ) → j < n → over (isParameter j) nodes ≡ 1 = λ j h. eqb-true _ _ (is-true (once j) (every-at n once (of-true (every n once) (not-false _ e11)) j h)) in
+    let exact : (j : ℕ) → j < n → sumOver (isParameter j) nodes ≡ 1 = λ j h. eqb-true _ _ (is-true (once j) (every-at n once (of-true (every n once) (not-false _ e11)) j h)) in
     record {
       proper = record {
         rank = ltb-false _ _ e8;

@@ -11,7 +11,7 @@ use Rattle.terms.specs.Refusal.{outside}
 use Rattle.terms.specs.Grammar.{Proper}
 use Rattle.terms.specs.Automaton.{Small}
 use Rattle.terms.specs.Sheet.{body, alphabetOf, rulesOf, automatonOf, transitionsOf}
-use Rattle.terms.specs.Check.{isTree, treeRefusal, alphabetRefusal, rulesRefusal, automatonRefusal, joins, refusal}
+use Rattle.terms.specs.Check.{isTree, treeRefusal, alphabetRefusal, rulesRefusal, automatonRefusal, joins, sheetRefusal}
 use Rattle.terms.proofs.Test.{of-true, or-false}
 use Rattle.terms.proofs.Refusal.{none-before, no-row}
 use Rattle.terms.proofs.Sheet.Grammar.{rules-passed}
@@ -53,8 +53,8 @@ pub record SheetPassed (s : List ℕ) : Type 0 where
   pub rules : rulesRefusal (alphabetOf s) (body s 1) ≡ 0
   pub automaton : automatonRefusal (alphabetOf s) (automatonOf s) ≡ 0
 
-pub sheet-passed : (s : List ℕ) → refusal s ≡ 0 → SheetPassed s
-unfolding refusal
+pub sheet-passed : (s : List ℕ) → sheetRefusal s ≡ 0 → SheetPassed s
+unfolding sheetRefusal
 sheet-passed s e =
     let (e1, r1) = no-row 0 (outside 12 1832 (length s)) _ e in
     let (e2, r2) = no-row 1 (not (joins s)) _ r1 in
@@ -72,9 +72,9 @@ sheet-passed s e =
     }
 
 -- its rules are a proper grammar, and its transitions give states below 8
-pub sheet-proper : (s : List ℕ) → refusal s ≡ 0 → Proper (alphabetOf s) (rulesOf s)
+pub sheet-proper : (s : List ℕ) → sheetRefusal s ≡ 0 → Proper (alphabetOf s) (rulesOf s)
 unfolding rulesOf
 sheet-proper s e = rules-passed (alphabetOf s) (body s 1) (sheet-passed s e .rules) .proper
 
-pub sheet-small : (s : List ℕ) → refusal s ≡ 0 → Small (transitionsOf (alphabetOf s) (automatonOf s))
+pub sheet-small : (s : List ℕ) → sheetRefusal s ≡ 0 → Small (transitionsOf (alphabetOf s) (automatonOf s))
 sheet-small s e = automaton-small (alphabetOf s) (automatonOf s) (automaton-passed (alphabetOf s) (automatonOf s) (sheet-passed s e .automaton))

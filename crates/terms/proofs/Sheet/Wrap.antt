@@ -12,7 +12,7 @@ use Rattle.terms.specs.Test.{all, every, tabulate}
 use Rattle.terms.specs.Tree.{Tree, Forest, node, none, more, preorder, preorders, pick, forestOf, treeOf, exactly, wholes}
 use Rattle.terms.specs.Grammar.{terminal, name, Rule, terminalRank, rankIn, rightSide, allowed, allAllowed, apply, derived, Terminals, AllTerminals}
 use Rattle.terms.specs.Sheet.{RulesBody, readRules, rulesBody, rulesOf, alphabetOf, automatonOf, sheetTree, wrapped}
-use Rattle.terms.specs.Check.{isOne, isTree, lone, ruleRefusal, rulesRefusal, alphabetRefusal, automatonRefusal, treeRefusal, refusal}
+use Rattle.terms.specs.Check.{isOne, isTree, lone, ruleRefusal, rulesRefusal, alphabetRefusal, automatonRefusal, treeRefusal, sheetRefusal}
 use Rattle.terms.specs.Calls.{wrapRefusal}
 use Rattle.terms.proofs.Test.{is-true, both, both-0, both-1, parts, all-append}
 use Rattle.terms.proofs.Refusal.{none-before, no-row}
@@ -152,7 +152,7 @@ wrap-passed alphabet tree automaton room e =
 
 -- what wrap writes
 pub record Wrapped (alphabet tree automaton : List ℕ) : Type 0 where
-  pub passes : refusal (wrapped alphabet tree automaton) ≡ 0
+  pub passes : sheetRefusal (wrapped alphabet tree automaton) ≡ 0
   pub alphabet-given : alphabetOf (wrapped alphabet tree automaton) ≡ alphabet
   pub rule-given : rulesOf (wrapped alphabet tree automaton) ≡ single tree
   pub automaton-given : automatonOf (wrapped alphabet tree automaton) ≡ automaton

@@ -9,7 +9,7 @@ use lib.ListN.{length, drop, length-append}
 use lib.Seq.{take-append-seam, drop-append-seam, drop-drop, take-length}
 use Rattle.terms.specs.Bytes.{word}
 use Rattle.terms.specs.Sheet.{bodyOffset, bodyLength, body, sheetOf}
-use Rattle.terms.specs.Check.{alphabetRefusal, rulesRefusal, automatonRefusal, joins, refusal}
+use Rattle.terms.specs.Check.{alphabetRefusal, rulesRefusal, automatonRefusal, joins, sheetRefusal}
 use Rattle.terms.proofs.Sheet.Passed.{alphabet-passed}
 use Rattle.terms.proofs.Sheet.Automaton.{automaton-passed}
 
@@ -74,8 +74,8 @@ module _ (alphabet rules automaton : List ℕ) (fits : 12 + (length alphabet + (
 
 -- a sheet whose bodies are not refused, and whose rules are short enough, is not refused
 pub written-passes : (alphabet rules automaton : List ℕ) → alphabetRefusal alphabet ≡ 0 → rulesRefusal alphabet rules ≡ 0
-    → automatonRefusal alphabet automaton ≡ 0 → length rules ≤ 256 → refusal (sheetOf alphabet rules automaton) ≡ 0
-unfolding refusal
+    → automatonRefusal alphabet automaton ≡ 0 → length rules ≤ 256 → sheetRefusal (sheetOf alphabet rules automaton) ≡ 0
+unfolding sheetRefusal
 written-passes alphabet rules automaton ea er em short =
     let a = alphabet-passed alphabet ea in
     let m = automaton-passed alphabet automaton em in

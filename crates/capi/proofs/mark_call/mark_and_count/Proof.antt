@@ -4,8 +4,8 @@ use mathlib.Core.List.{_++_}
 use native.Mathlib.Omega.{arith}
 use lib.ListN.{drop, length-set}
 use borrow.Author.Needs.{needs}
-use Rattle.marking.specs.declared.tally.Tally.{Tally}
-use Rattle.marking.specs.Tally.{counts}
+use Rattle.tallies.specs.declared.tally.Tally.{Tally}
+use Rattle.tallies.specs.Tally.{counts}
 use Rattle.capi.proofs.Marked.{three-set}
 use Rattle.capi.proofs.mark_call.mark_and_count.Statement.{statement}
 use Rattle.capi.proofs.mark_call.mark_and_count.Tie as tie

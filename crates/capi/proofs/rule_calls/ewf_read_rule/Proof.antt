@@ -5,35 +5,35 @@ use native.Mathlib.Omega.{arith}
 use lib.ListN.{drop}
 use borrow.Author.Needs.{needs}
 use Rattle.terms.proofs.Lent.{lent-kept, lent-written}
-use Rattle.forms.specs.declared.rule.FormRule.{FormRule}
+use Rattle.form_bytes.specs.declared.rule.FormRule.{FormRule}
 use Rattle.forms.proofs.Rules.{passed, rule-whole}
 use Rattle.capi.specs.Result.{ruleNumbers}
 use Rattle.capi.proofs.RuleRead.{rule-passed}
 use Rattle.capi.proofs.rule_calls.ewf_read_rule.Statement.{statement}
 use Rattle.capi.proofs.rule_calls.ewf_read_rule.Tie as tie
 
-rule-refusal-requires : tie.Need-rule-refusal-requires
-rule-refusal-requires c κs = search needs
+rule-call-refusal-requires : tie.Need-rule-call-refusal-requires
+rule-call-refusal-requires c κs = search needs
 
 returns : tie.Need-returns
 returns c =
-    let e = c .before .rule-refusal .ensures in
+    let e = c .before .rule-call-refusal .ensures in
     (e, lent-kept _ _ e (c .if1 .taken))
 
 cast-t9 : tie.Need-cast-t9
 cast-t9 c =
-    let p = rule-passed _ _ _ _ (sym (c .before .rule-refusal .ensures) ∙ c .if1 .left) in
+    let p = rule-passed _ _ _ _ (sym (c .before .rule-call-refusal .ensures) ∙ c .if1 .left) in
     omega (arith, p .exists, passed _ _ (p .ranked) (p .valid) .few)
 
 rule-at-requires : tie.Need-rule-at-requires
 rule-at-requires c κs =
-    let p = rule-passed _ _ _ _ (sym (c .before .rule-refusal .ensures) ∙ c .if1 .left) in
+    let p = rule-passed _ _ _ _ (sym (c .before .rule-call-refusal .ensures) ∙ c .if1 .left) in
     rule-whole _ _ (p .ranked) (p .valid) _ (p .exists)
 
 write-numbers-requires : tie.Need-write-numbers-requires
 write-numbers-requires c κs =
     let checked = c .before .before in
-    rule-passed _ _ _ _ (sym (checked .before .rule-refusal .ensures) ∙ checked .if1 .left) .places
+    rule-passed _ _ _ _ (sym (checked .before .rule-call-refusal .ensures) ∙ checked .if1 .left) .places
 
 same-length : tie.Need-same-length
 same-length c = search needs
@@ -44,14 +44,14 @@ returns-2 c =
     let read = call .before .before in
     let checked = read .before in
     let given = checked .before .before .before .before .before .args in
-    let e = checked .before .rule-refusal .ensures in
+    let e = checked .before .rule-call-refusal .ensures in
     (sym (checked .if1 .left) ∙ e, lent-written _ _ e (checked .if1 .left) (call .write-numbers .ensures ∙ ap (λ (r : FormRule). ruleNumbers r ++ drop 7 (given .rule .now)) (read .rule-at .ensures)))
 
 pub ewf-read-rule-spec : {M : Type 1} → statement M
 ewf-read-rule-spec =
     tie.close
     (tie.spec
-    rule-refusal-requires
+    rule-call-refusal-requires
     returns
     cast-t9
     rule-at-requires

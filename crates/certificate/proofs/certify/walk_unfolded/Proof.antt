@@ -3,8 +3,8 @@ use mathlib.Core.Path.{sym, subst}
 use lib.ListN.{length}
 use lib.Seq.{length-take-le}
 use borrow.Author.Needs.{needs}
-use Rattle.forms.specs.declared.unfold.Unfolding.{Unfolding}
-use Rattle.certificate.specs.Certify.{Within}
+use Rattle.unfolding.specs.declared.unfold.Unfolding.{Unfolding}
+use Rattle.certificate.specs.Private.Within.{Within}
 use Rattle.certificate.proofs.Handed.{none-walked, nodes-walked}
 use Rattle.certificate.proofs.certify.walk_unfolded.Statement.{statement}
 use Rattle.certificate.proofs.certify.walk_unfolded.Tie as tie

@@ -9,7 +9,7 @@ use Rattle.forms.specs.Reading.{orRule, ruleReading}
 use Rattle.terms.proofs.Refusal.{is-first}
 use Rattle.forms.proofs.Laws.{refused}
 use Rattle.forms.proofs.Rules.{head-long, rule-whole}
-use Rattle.forms.proofs.Answers.{opening-passed}
+use Rattle.forms.proofs.Rules.{opening-passed}
 use Rattle.forms.proofs.rule.read_rule.Statement.{statement}
 use Rattle.forms.proofs.rule.read_rule.Tie as tie
 

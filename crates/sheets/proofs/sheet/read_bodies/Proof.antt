@@ -1,7 +1,7 @@
 -- `sheets::sheet::read_bodies` meets its contract: each body's refusal comes where those before it were passed.
 use mathlib.Core.Path.{sym, _∙_}
 use borrow.Author.Needs.{needs}
-use Rattle.sheets.proofs.Laws.Reading.{alphabet-first, rules-first, automaton-first, all-pass}
+use Rattle.sheets.proofs.Bodies.{alphabet-first, rules-first, automaton-first, all-pass}
 use Rattle.sheets.proofs.sheet.read_bodies.Statement.{statement}
 use Rattle.sheets.proofs.sheet.read_bodies.Tie as tie
 

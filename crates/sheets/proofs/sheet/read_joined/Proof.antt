@@ -3,7 +3,7 @@ use mathlib.Core.Path.{_∙_}
 use native.Mathlib.Omega.{arith}
 use borrow.Author.Needs.{needs}
 use denote.Ref.{now}
-use Rattle.sheets.proofs.Laws.Reading.{Parts, parts-read}
+use Rattle.sheets.proofs.Bodies.{Parts, parts-read}
 use Rattle.sheets.proofs.sheet.read_joined.Statement.{statement}
 use Rattle.sheets.proofs.sheet.read_joined.Tie as tie
 

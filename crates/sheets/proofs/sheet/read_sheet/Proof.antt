@@ -11,7 +11,7 @@ use denote.Ref.{now}
 use lib.ListN.{length}
 use Rattle.terms.specs.Refusal.{outside}
 use Rattle.terms.specs.Check.{joins}
-use Rattle.sheets.proofs.Laws.Sheet.{wrong-length, not-joined, bodies-refused, sheet-read}
+use Rattle.sheets.proofs.Answer.{wrong-length, not-joined, bodies-refused, sheet-read}
 use Rattle.sheets.proofs.sheet.read_sheet.Statement.{statement}
 use Rattle.sheets.proofs.sheet.read_sheet.Tie as tie
 

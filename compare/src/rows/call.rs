@@ -1,0 +1,107 @@
+//! The calls of rows.
+
+use super::fields::Fields;
+use crate::reference::marking::Step;
+
+/// A call with what it reads and the lengths of the slices it is lent.
+pub enum Call {
+    Line { sheet: Vec<u8> },
+    Make { sheet: Vec<u8>, room: usize },
+    Mark { sheet: Vec<u8>, room: usize, numbers: usize, tally: [u32; 3] },
+    Certify { sheet: Vec<u8>, rooms: Rooms },
+    Rule { alphabet: Vec<u8>, form: Vec<u8>, number: usize },
+    Size { alphabet: Vec<u8>, form: Vec<u8>, numbers: usize },
+    Label { alphabet: Vec<u8>, form: Vec<u8>, position: u64, numbers: usize },
+    Unfold { alphabet: Vec<u8>, form: Vec<u8>, numbers: usize, room: usize },
+    Evaluate { alphabet: Vec<u8>, automaton: Vec<u8>, form: Vec<u8>, numbers: usize },
+    Walk { alphabet: Vec<u8>, automaton: Vec<u8>, tree: Vec<u8>, room: usize },
+    Wrap { alphabet: Vec<u8>, tree: Vec<u8>, automaton: Vec<u8>, room: usize },
+    Step { step: Step, tally: [u32; 3] },
+}
+
+/// The lengths of the slices of form making, evaluation, unfolding and walk in turn.
+pub struct Rooms {
+    pub form: usize,
+    pub relations: usize,
+    pub counts: usize,
+    pub tree: usize,
+    pub masks: usize,
+}
+
+impl Rooms {
+    fn read(fields: &mut Fields) -> Option<Rooms> {
+        Some(Rooms {
+            form: fields.room()?,
+            relations: fields.numbers()?,
+            counts: fields.numbers()?,
+            tree: fields.room()?,
+            masks: fields.room()?,
+        })
+    }
+}
+
+impl Call {
+    /// The call that stands behind a row's colon, if it can be read.
+    pub fn read(text: &str) -> Option<Call> {
+        let mut fields = Fields::of(text.strip_prefix(' ')?);
+        let call = match fields.word()? {
+            name @ ("line" | "make" | "mark" | "certify") => sheet_call(name, &mut fields)?,
+            name @ ("rule" | "size" | "label" | "unfold") => form_call(name, &mut fields)?,
+            name @ ("evaluate" | "walk" | "wrap") => tree_call(name, &mut fields)?,
+            "accept" => Call::Step { step: Step::Accept, tally: fields.tally()? },
+            "decline" => Call::Step { step: Step::Decline, tally: fields.tally()? },
+            "turn_away" => Call::Step { step: Step::TurnAway, tally: fields.tally()? },
+            _ => return None,
+        };
+        fields.ended().then_some(call)
+    }
+
+    /// The sheet that the call reads.
+    pub fn sheet(self) -> Option<Vec<u8>> {
+        match self {
+            Call::Line { sheet }
+            | Call::Make { sheet, .. }
+            | Call::Mark { sheet, .. }
+            | Call::Certify { sheet, .. } => Some(sheet),
+            _ => None,
+        }
+    }
+}
+
+fn sheet_call(name: &str, fields: &mut Fields) -> Option<Call> {
+    let sheet = fields.bytes()?;
+    Some(match name {
+        "line" => Call::Line { sheet },
+        "make" => Call::Make { sheet, room: fields.room()? },
+        "mark" => Call::Mark {
+            sheet,
+            room: fields.room()?,
+            numbers: fields.numbers()?,
+            tally: fields.tally()?,
+        },
+        _ => Call::Certify { sheet, rooms: Rooms::read(fields)? },
+    })
+}
+
+fn form_call(name: &str, fields: &mut Fields) -> Option<Call> {
+    let (alphabet, form) = (fields.bytes()?, fields.bytes()?);
+    Some(match name {
+        "rule" => Call::Rule { alphabet, form, number: fields.rule()? },
+        "size" => Call::Size { alphabet, form, numbers: fields.numbers()? },
+        "label" => {
+            Call::Label { alphabet, form, position: fields.number()?, numbers: fields.numbers()? }
+        }
+        _ => Call::Unfold { alphabet, form, numbers: fields.numbers()?, room: fields.room()? },
+    })
+}
+
+fn tree_call(name: &str, fields: &mut Fields) -> Option<Call> {
+    let (alphabet, second, third) = (fields.bytes()?, fields.bytes()?, fields.bytes()?);
+    Some(match name {
+        "evaluate" => {
+            Call::Evaluate { alphabet, automaton: second, form: third, numbers: fields.numbers()? }
+        }
+        "walk" => Call::Walk { alphabet, automaton: second, tree: third, room: fields.room()? },
+        _ => Call::Wrap { alphabet, tree: second, automaton: third, room: fields.room()? },
+    })
+}

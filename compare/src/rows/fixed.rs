@@ -1,0 +1,42 @@
+//! The calls whose results document 01 fixes.
+
+use super::printed::{lent, slice};
+use super::words::{rule_text, said, size_text, told};
+use crate::reference::calls;
+
+pub fn rule(alphabet: &[u8], form: &[u8], number: usize) -> String {
+    told(calls::read_rule(alphabet, form, number), rule_text)
+}
+
+pub fn size(alphabet: &[u8], form: &[u8], numbers: usize) -> String {
+    let mut counts = lent(numbers);
+    told(calls::size(alphabet, form, &mut counts), size_text) + &slice("counts", &counts)
+}
+
+pub fn label(alphabet: &[u8], form: &[u8], position: u64, numbers: usize) -> String {
+    let mut counts = lent(numbers);
+    let found = calls::label(alphabet, form, position, &mut counts);
+    said("terminal", found) + &slice("counts", &counts)
+}
+
+pub fn unfold(alphabet: &[u8], form: &[u8], numbers: usize, room: usize) -> String {
+    let (mut counts, mut tree) = (lent(numbers), lent(room));
+    let unfolded = calls::unfold(alphabet, form, &mut counts, &mut tree);
+    said("written", unfolded) + &slice("tree", &tree) + &slice("counts", &counts)
+}
+
+pub fn evaluate(alphabet: &[u8], automaton: &[u8], form: &[u8], numbers: usize) -> String {
+    let mut relations = lent(numbers);
+    let evaluated = calls::evaluate(alphabet, automaton, form, &mut relations);
+    said("mask", evaluated) + &slice("relations", &relations)
+}
+
+pub fn walk(alphabet: &[u8], automaton: &[u8], tree: &[u8], room: usize) -> String {
+    let mut masks = lent(room);
+    said("mask", calls::walk(alphabet, automaton, tree, &mut masks)) + &slice("masks", &masks)
+}
+
+pub fn wrap(alphabet: &[u8], tree: &[u8], automaton: &[u8], room: usize) -> String {
+    let mut sheet = lent(room);
+    said("written", calls::wrap(alphabet, tree, automaton, &mut sheet)) + &slice("sheet", &sheet)
+}

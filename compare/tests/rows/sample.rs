@@ -1,0 +1,144 @@
+//! Rows of every call, answered and refused, with what must be printed for each. A word behind a
+//! `$` stands for bytes that come often.
+
+/// W's contents, alphabet, rules and transitions.
+const CONTENTS: &str = "0C0003000F00110020001A00";
+const ALPHABET: &str = "000201";
+const RULES: &str = "0103020280020401408180000441004000";
+const TRANSITIONS: &str = "0000FFFFFFFF020100FFFFFF020001FFFFFF01000000FFFF";
+
+/// A form of W's tree, written by hand: a, h, hh, hhhh, hhhh(a), f(hhhh(a), a).
+const FORM: &str = "\
+    0600050000000000FFFFFFFFFFFFFFFF01020100FFFFFFFFFFFFFFFF03FF000001000100FFFFFFFF\
+    03FF000002000200FFFFFFFF02FF000003000000FFFFFFFF0001000004000000FFFFFFFF";
+
+/// What is left of the slices after it was made, evaluated and counted, but for the kept elements.
+const MADE: &str = "\
+    form 06 00 05 00 00 00 00 00 ff ff ff ff ff ff ff ff 01 02 01 00 ff ff ff ff ff ff ff ff \
+    03 ff 00 00 01 00 01 00 ff ff ff ff 03 ff 00 00 02 00 02 00 ff ff ff ff \
+    02 ff 00 00 03 00 00 00 ff ff ff ff 00 01 00 00 04 00 00 00 ff ff ff ff";
+const RELATIONS: &str = "relations 1 102 201 201 1 1";
+const COUNTS: &str = "counts 1 0 1 1 2 2 4 4 5 0 7 0";
+const TREE: &str = "tree 01 02 02 02 02 00 00";
+const MASKS: &str = "masks 01 01 02 01 02 01 01";
+
+/// The sheet of one leaf, wrapped without transitions, and the form of it.
+const LEAF: &str = "sheet 0c 00 03 00 0f 00 03 00 12 00 02 00 00 02 01 00 01 00 02 01";
+const LEAF_FORM: &str = "form 01 00 00 00 00 00 00 00 ff ff ff ff ff ff ff ff";
+
+const HEADINGS: [(&str, &str); 3] =
+    [("# A heading: line 00", "# A heading: line 00"), ("", ""), ("#", "#")];
+
+const SHEET_CALLS: [(&str, &str); 15] = [
+    ("K1 W: line $w", "K1 W: accepted 1 7"),
+    (": line $contents+$alphabet+$rules+0202+$transitions", ": declined 1 7"),
+    ("empty: line -", "empty: refused 1"),
+    ("65 rules: line 0C0003000F00C300D2000200+$alphabet+65*000100+0201", "65 rules: refused 6"),
+    ("made: make $w 2120", "made: written 76; $made, 2044 kept"),
+    ("17: make $w 2115", "17: refused 17; form 2115 kept"),
+    (
+        "marked: mark $w 2116 176 3 1 2",
+        "marked: accepted 1, tally 4 1 2; $made, 2040 kept; $relations, 170 kept",
+    ),
+    (
+        "declined: mark $contents+$alphabet+$rules+0202+$transitions 2116 177 3 1 2",
+        "declined: declined 1, tally 3 2 2; $made, 2040 kept; $relations, 171 kept",
+    ),
+    (
+        "turned away: mark - 0 0 3 1 2",
+        "turned away: refused 1, tally 3 1 3; form 0 kept; relations 0 kept",
+    ),
+    (
+        "19: mark $w 2116 175 3 1 2",
+        "19: refused 19, tally 3 1 2; form 2116 kept; relations 175 kept",
+    ),
+    (
+        "25: mark - 4 99999 3 1 99999999999999999999",
+        "25: refused 25, tally 3 1 4294967295; form 4 kept; relations 4096 kept",
+    ),
+    (
+        "certified: certify $w 2116 7 13 8 9",
+        "certified: written 76, mask 1, written 7, mask 1; $counts, 1 kept; $tree, 1 kept; \
+         $masks, 2 kept; $made, 2040 kept; $relations, 1 kept",
+    ),
+    (
+        "20 of four: certify $w 2116 6 12 6 9",
+        "20 of four: written 76, mask 1, refused 20, refused 20; counts 12 kept; tree 6 kept; \
+         masks 9 kept; $made, 2040 kept; $relations, 0 kept",
+    ),
+    (
+        "19 of four: certify $w 2116 5 12 7 6",
+        "19 of four: written 76, refused 19, written 7, refused 19; $counts, 0 kept; $tree, 0 kept; \
+         masks 6 kept; $made, 2040 kept; relations 5 kept",
+    ),
+    (
+        "1 of four: certify - 1 2 3 4 5",
+        "1 of four: refused 1, refused 1, refused 1, refused 1; counts 3 kept; tree 4 kept; \
+         masks 5 kept; form 1 kept; relations 2 kept",
+    ),
+];
+
+const FORM_CALLS: [(&str, &str); 10] = [
+    ("rule: rule $alphabet $form 5", "rule: rule 0 1 0 4 0 65535 65535"),
+    ("no rule: rule $alphabet $form 6", "no rule: refused 21"),
+    ("size: size $alphabet $form 13", "size: size 7; $counts, 1 kept"),
+    ("short: size $alphabet $form 11", "short: refused 19; counts 11 kept"),
+    ("label: label $alphabet $form 5 12", "label: terminal 0; $counts, 0 kept"),
+    ("past: label $alphabet $form 7 12", "past: refused 21; counts 12 kept"),
+    ("unfold: unfold $alphabet $form 12 8", "unfold: written 7; $tree, 1 kept; $counts, 0 kept"),
+    ("into 6: unfold $alphabet $form 12 6", "into 6: refused 20; tree 6 kept; counts 12 kept"),
+    ("mask: evaluate $alphabet 0201+$transitions $form 8", "mask: mask 1; $relations, 2 kept"),
+    ("18: evaluate $alphabet 0201 010203 8", "18: refused 18; relations 8 kept"),
+];
+
+const TREE_CALLS: [(&str, &str); 5] = [
+    ("walk: walk $alphabet 0201+$transitions 01+4*02+2*00 8", "walk: mask 1; $masks, 1 kept"),
+    ("20 h: walk $alphabet 0201 20*02+00 22", "20 h: mask 0; masks 21*00, 1 kept"),
+    ("K9: walk $alphabet 0201 0100 2", "K9: refused 23; masks 2 kept"),
+    ("wrap: wrap $alphabet 00 0201 20", "wrap: written 20; $leaf, 0 kept"),
+    ("24: wrap $alphabet 00 0201 0", "24: refused 24; sheet 0 kept"),
+];
+
+const STEPS: [(&str, &str); 4] = [
+    ("accept: accept 3 1 2", "accept: tally 4 1 2"),
+    ("decline: decline 3 1 2", "decline: tally 3 2 2"),
+    ("turn away: turn_away 3 1 2", "turn away: tally 3 1 3"),
+    ("full: turn_away 3 4294967295 2", "full: refused 25"),
+];
+
+const UNREADABLE: [(&str, &str); 8] = [
+    ("half a byte: line 0", "half a byte: unreadable"),
+    ("small letters: line 0c", "small letters: unreadable"),
+    ("no such call: lines 00", "no such call: unreadable"),
+    ("too few: make 00", "too few: unreadable"),
+    ("too many: line 00 00", "too many: unreadable"),
+    ("no number: accept 3 1 x", "no number: unreadable"),
+    ("no call:", "no call: unreadable"),
+    ("no colon", "no colon: unreadable"),
+];
+
+/// The input and the output.
+pub fn sample() -> (String, String) {
+    let parts = [&HEADINGS[..], &SHEET_CALLS, &FORM_CALLS, &TREE_CALLS, &STEPS, &UNREADABLE];
+    let (rows, lines): (Vec<&str>, Vec<&str>) = parts.concat().into_iter().unzip();
+    (filled(&rows.join("\n")) + "\n", filled(&lines.join("\n")) + "\n")
+}
+
+fn filled(text: &str) -> String {
+    let words = [
+        ("$w", "$contents+$alphabet+$rules+0201+$transitions"),
+        ("$contents", CONTENTS),
+        ("$alphabet", ALPHABET),
+        ("$rules", RULES),
+        ("$transitions", TRANSITIONS),
+        ("$form", FORM),
+        ("$made", MADE),
+        ("$relations", RELATIONS),
+        ("$counts", COUNTS),
+        ("$tree", TREE),
+        ("$masks", MASKS),
+        ("$leaf", LEAF),
+        ("$small", LEAF_FORM),
+    ];
+    words.iter().fold(text.to_string(), |text, (word, bytes)| text.replace(word, bytes))
+}

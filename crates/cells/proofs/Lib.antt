@@ -1,0 +1,4 @@
+pub mod Pasted
+pub mod Held
+pub mod Standing
+pub mod Adding

@@ -1,0 +1,3 @@
+pub mod Bytes
+pub mod Cells
+pub mod State

@@ -1,0 +1,64 @@
+// A rule of rank 1 over what a cell represents: Contract-1 of source document 000, section 6, where that is a rule too.
+use cells::cells::CHILDREN;
+use cells::cells::KIND;
+use cells::cells::NUMBER;
+use cells::cells::SHUT;
+use cells::cells::SPACE;
+use cells::cells::UNDER;
+use cells::cells::field;
+use cells::state::Free;
+use cells::state::Made;
+use cells::state::add_cell;
+use cells::state::add_rule;
+use form_bytes::rule::FormRule;
+use terms::Rule;
+use terms::Terminal;
+ghost use mathlib.Core.Path.{_≡_};
+ghost use mathlib.Core.List.{_∷_, []};
+ghost use Prim.Native.Nat.{_<_};
+ghost use Rattle.cells.specs.Bytes.{fieldsWith};
+ghost use Rattle.cells.specs.State.{Room};
+ghost use Rattle.contraction.specs.Chain.{ChainContracted};
+
+// The rules B(C), of kind 2, and B(C(y)), of kind 3.
+fn chain(kind: u8, b: Rule, c: Rule) -> FormRule
+    ensures { λ r. ⌜ r ≡ fieldsWith kind 0xFF 0 (b .0 ∷ c .0 ∷ []) ⌝ }
+{
+    FormRule {
+        kind,
+        terminal: Terminal(0xFF),
+        hole: 0,
+        slot0: b,
+        slot1: c,
+        slot2: Rule(0xFFFF),
+        slot3: Rule(0xFFFF),
+    }
+}
+
+// Over a rule of rank 0 it makes a rule of rank 0, over a rule of rank 1 one of rank 1; over anything else it stays as it is.
+pub fn contract_chain(
+    form: &mut [u8],
+    cells: &mut [u16; SPACE],
+    free: Free,
+    context: Rule,
+    cell: u16,
+) -> Made
+    requires { ⌜ Room 1 1 (now form) (now cells) free × (cell < free .cell) ⌝ }
+    ensures { λ r. ⌜ ChainContracted (now (form .entry)) (now (cells .entry)) free (context .0) cell (now (form .exit)) (now (cells .exit)) r ⌝ }
+{
+    let kind = field(cells, cell, KIND);
+    let number = field(cells, cell, NUMBER);
+    if kind == SHUT {
+        let next = add_rule(form, free, chain(2, context, Rule(number)));
+        let fields = [SHUT, free.rule.0, 0, 0, 0, 0, 0];
+        return add_cell(cells, next, &fields);
+    }
+    if kind == UNDER {
+        let child = field(cells, cell, CHILDREN);
+        let next = add_rule(form, free, chain(3, context, Rule(number)));
+        let fields = [UNDER, free.rule.0, 1, child, 0, 0, 0];
+        return add_cell(cells, next, &fields);
+    }
+    let fields = [UNDER, context.0, 1, cell, 0, 0, 0];
+    add_cell(cells, free, &fields)
+}

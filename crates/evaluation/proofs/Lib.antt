@@ -1,0 +1,3 @@
+pub mod Passed
+pub mod Entry
+pub mod Entries

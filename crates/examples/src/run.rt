@@ -1,0 +1,182 @@
+// Running a row that was read: its call is lent a slice of bytes and one of numbers, which are printed behind the answer.
+use counting::size::size;
+use evaluation::evaluate::evaluate;
+use forms::rule::read_rule;
+use labelling::label::label;
+use making::make_form;
+use mark_line::line::line_of;
+use mark_line::show::show_line;
+use plain_walk::walk::walk;
+use row_answers::answers::say_evaluation;
+use row_answers::answers::say_label;
+use row_answers::answers::say_making;
+use row_answers::answers::say_marking;
+use row_answers::answers::say_reading;
+use row_answers::answers::say_size;
+use row_answers::answers::say_step;
+use row_answers::answers::say_unfolding;
+use row_answers::answers::say_walk;
+use row_answers::answers::say_wrapping;
+use row_answers::certify::certify_into;
+use rows::lend::BYTE;
+use rows::lend::MOST_BYTES;
+use rows::lend::MOST_NUMBERS;
+use rows::lend::NUMBER;
+use rows::lend::within;
+use rows::names::ACCEPT;
+use rows::names::CERTIFY;
+use rows::names::DECLINE;
+use rows::names::EVALUATE;
+use rows::names::LABEL;
+use rows::names::LINE;
+use rows::names::MAKE;
+use rows::names::MARK;
+use rows::names::RULE;
+use rows::names::SIZE;
+use rows::names::UNFOLD;
+use rows::names::WALK;
+use rows::names::WRAP;
+use rows::names::fields_of;
+use rows::row::LOST;
+use rows::row::Row;
+use rows::show::put;
+use rows::show::show_bytes;
+use rows::show::show_numbers;
+use rows::words;
+use rows::words::UNREADABLE;
+use rows::words::say;
+use tallies::mark::mark;
+use tallies::tally::Step;
+use tallies::tally::Tally;
+use terms::Rule;
+use unfolding::unfold::unfold;
+use wrapping::wrap::wrap;
+
+// The bytes between two places, none where they do not lie in the slice.
+fn part(bytes: &[u8], from: usize, end: usize) -> &[u8] {
+    if from <= end {
+        if end <= bytes.len() {
+            return &bytes[from..end];
+        }
+    }
+    &bytes[0..0]
+}
+
+fn tally_of(accepted: usize, declined: usize, turned_away: usize) -> Tally {
+    Tally {
+        accepted: within(accepted, 4294967295) as u32,
+        declined: within(declined, 4294967295) as u32,
+        turned_away: within(turned_away, 4294967295) as u32,
+    }
+}
+
+fn step(call: usize, tally: Tally) -> Step {
+    match call {
+        ACCEPT => tally.accept(),
+        DECLINE => tally.decline(),
+        _ => tally.turn_away(),
+    }
+}
+
+fn rule_of(number: usize) -> Rule {
+    Rule(within(number, 65535) as u16)
+}
+
+// The length of the slice of bytes that a call is lent, which is one of the fields of its row.
+fn room_of(call: usize, n: [usize; 9]) -> usize {
+    match call {
+        MAKE | MARK | CERTIFY => n[3],
+        UNFOLD | WALK | WRAP => n[5],
+        _ => 0,
+    }
+}
+
+// The length of the slice of numbers.
+fn count_of(call: usize, n: [usize; 9]) -> usize {
+    match call {
+        MARK | CERTIFY | SIZE | UNFOLD => n[4],
+        EVALUATE | LABEL => n[5],
+        _ => 0,
+    }
+}
+
+// The name of the slice of bytes.
+fn name_of_bytes(call: usize) -> usize {
+    match call {
+        MAKE | MARK | CERTIFY => words::FORM,
+        UNFOLD => words::TREE,
+        WALK => words::MASKS,
+        WRAP => words::SHEET,
+        _ => words::NOTHING,
+    }
+}
+
+// The name of the slice of numbers.
+fn name_of_numbers(call: usize) -> usize {
+    match call {
+        MARK | CERTIFY | EVALUATE => words::RELATIONS,
+        SIZE | LABEL | UNFOLD => words::COUNTS,
+        _ => words::NOTHING,
+    }
+}
+
+// Makes a call on its fields and what it is lent, and prints its answer.
+fn answer(
+    call: usize,
+    a: &[u8],
+    b: &[u8],
+    c: &[u8],
+    n: [usize; 9],
+    bytes: &mut [u8],
+    numbers: &mut [u64],
+) {
+    match call {
+        MAKE => say_making(make_form(a, bytes)),
+        MARK => say_marking(mark(a, bytes, numbers, tally_of(n[5], n[6], n[7]))),
+        CERTIFY => certify_into(a, bytes, numbers, n),
+        RULE => say_reading(read_rule(a, b, rule_of(n[4]))),
+        EVALUATE => say_evaluation(evaluate(a, b, c, numbers)),
+        SIZE => say_size(size(a, b, numbers)),
+        LABEL => say_label(label(a, b, n[4] as u64, numbers)),
+        UNFOLD => say_unfolding(unfold(a, b, numbers, bytes)),
+        WALK => say_walk(walk(a, b, c, bytes)),
+        WRAP => say_wrapping(wrap(a, b, c, bytes)),
+        _ => say_step(step(call, tally_of(n[2], n[3], n[4]))),
+    }
+}
+
+fn run_call(call: usize, a: &[u8], b: &[u8], c: &[u8], n: [usize; 9]) {
+    let mut bytes = [BYTE; MOST_BYTES];
+    let mut numbers = [NUMBER; MOST_NUMBERS];
+    let room = within(room_of(call, n), MOST_BYTES);
+    let count = within(count_of(call, n), MOST_NUMBERS);
+    let lent_bytes = &mut bytes[0..room];
+    let lent_numbers = &mut numbers[0..count];
+    answer(call, a, b, c, n, lent_bytes, lent_numbers);
+    show_bytes(name_of_bytes(call), lent_bytes);
+    show_numbers(name_of_numbers(call), lent_numbers);
+    put(b'\n');
+}
+
+fn run_fields(call: usize, bytes: &[u8], ends: [usize; 9], n: [usize; 9]) {
+    let a = part(bytes, ends[1], ends[2]);
+    if call == LINE {
+        show_line(line_of(a));
+        return;
+    }
+    let b = part(bytes, ends[2], ends[3]);
+    let c = part(bytes, ends[3], ends[4]);
+    run_call(call, a, b, c, n);
+}
+
+// Runs the call of a row, and ends the line.
+pub fn run_row(row: Row, bytes: &[u8]) {
+    if row.fields != fields_of(row.call) || row.end == LOST {
+        say(UNREADABLE);
+        put(b'\n');
+        return;
+    }
+    let ends = row.ends;
+    let numbers = row.numbers;
+    run_fields(row.call, bytes, ends, numbers);
+}

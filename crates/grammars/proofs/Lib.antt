@@ -1,0 +1,6 @@
+pub mod List
+pub mod Node
+pub mod Body
+pub mod Rule
+pub mod EachRule
+pub mod Reading

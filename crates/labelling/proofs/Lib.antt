@@ -1,0 +1,4 @@
+pub mod Descent
+pub mod Places
+pub mod Start
+pub mod Answers

@@ -1,0 +1,63 @@
+-- `plain_walk::walk::walk` meets its contract: a refusal is answered by its number and leaves the slice as it was; else the slice has the mask of each subtree, and the
+-- answer is that of the whole tree.
+use mathlib.Core.Path.{_≡_, sym, _∙_}
+use native.Mathlib.Omega.{arith}
+use lib.ListN.{length}
+use denote.Ref.{now}
+use borrow.Author.Needs.{needs}
+use Rattle.terms.specs.Calls.{walkRefusal}
+use Rattle.terms.proofs.Sheet.Automaton.{automaton-passed}
+use Rattle.plain_walk.proofs.Passed.{WalkPassed, walk-passed, some-node}
+use Rattle.plain_walk.proofs.Outcome.{refuses, reads}
+use Rattle.plain_walk.proofs.walk.walk.Statement.{statement}
+use Rattle.plain_walk.proofs.walk.walk.Tie as tie
+
+-- the checks refuse nothing
+none-refused : (c : tie.Else1) →
+    let a = c .before .before .before .before .before .before .args in
+    walkRefusal (now (a .alphabet)) (now (a .automaton)) (now (a .tree)) (length (now (a .masks))) ≡ 0
+none-refused c = sym (c .before .walk-refusal .ensures) ∙ c .if1 .left
+
+-- what they say of the arguments
+checked : (c : tie.Else1) →
+    let a = c .before .before .before .before .before .before .args in
+    WalkPassed (now (a .alphabet)) (now (a .automaton)) (now (a .tree)) (length (now (a .masks)))
+checked c = walk-passed _ _ _ _ (none-refused c)
+
+walk-refusal-requires : tie.Need-walk-refusal-requires
+walk-refusal-requires c κs = search needs
+
+returns : tie.Need-returns
+returns c = refuses _ _ _ _ (c .before .walk-refusal .ensures) (c .if1 .taken)
+
+link-transitions-requires : tie.Need-link-transitions-requires
+link-transitions-requires c κs =
+    let p = automaton-passed _ _ (checked c .automatonPasses) in
+    omega (arith, p .long, p .few)
+
+read-node-requires : tie.Need-read-node-requires
+read-node-requires c κs =
+    let linked = c .before .before in
+    let passes = linked .before in
+    (record { passes = none-refused passes; linked = linked .link-transitions .ensures }, some-node _ _ (checked passes .treePasses))
+
+slice-read-t14 : tie.Need-slice-read-t14
+slice-read-t14 c =
+    let read = c .before .before .before in
+    let p = checked (read .before .before .before .before) in
+    omega (arith, read .read-node .kept .1 .1 .1 .1 .1 .0, p .fits, some-node _ _ (p .treePasses))
+
+same-length : tie.Need-same-length
+same-length c = search needs
+
+returns-2 : tie.Need-returns-2
+returns-2 c =
+    let read = c .before .before .before in
+    let passes = read .before .before .before .before in
+    let (end, noted) = read .read-node .ensures in
+    reads _ _ _ _ (passes .before .walk-refusal .ensures) (passes .if1 .left) (read .read-node .kept .1 .1 .1 .1 .1 .0) end noted
+
+pub walk-spec : {M : Type 1} → statement M
+walk-spec =
+    tie.close
+    (tie.spec walk-refusal-requires returns link-transitions-requires read-node-requires slice-read-t14 same-length returns-2)

@@ -1,0 +1,53 @@
+-- `restoring::restore::make_wrapped` meets its contract.
+use mathlib.Core.Path.{sym, subst}
+use lib.ListN.{length}
+use lib.Seq.{length-take-le}
+use borrow.Author.Needs.{needs}
+use Rattle.wrapping.specs.declared.wrap.Wrapping.{Wrapping}
+use Rattle.restoring.specs.Private.Within.{SheetWithin}
+use Rattle.restoring.proofs.Handed.{none-made, sheet-made}
+use Rattle.restoring.proofs.restore.make_wrapped.Statement.{statement}
+use Rattle.restoring.proofs.restore.make_wrapped.Tie as tie
+
+enum-known-wrapped : tie.Need-enum-known-wrapped
+enum-known-wrapped c = search needs
+
+enum-known-wrapped-2 : tie.Need-enum-known-wrapped-2
+enum-known-wrapped-2 c = search needs
+
+slice-aggregate-make-form : tie.Need-slice-aggregate-make-form
+slice-aggregate-make-form c =
+    let told = c .before .before in
+    let start = told .before .before .before .before in
+    sym (length-take-le _ (start .args .sheet .now) (subst (λ (w : Wrapping). SheetWithin w (length (start .args .sheet .now))) (told .wrapped2 .given .1) (start .pre)))
+
+make-form-requires : tie.Need-make-form-requires
+make-form-requires c κs = search needs
+
+returns : tie.Need-returns
+returns c =
+    let told = c .before in
+    let given = told .before .before .before .before .args in
+    none-made (given .sheet .now) (told .wrapped .given .1) (given .form .now)
+
+same-length : tie.Need-same-length
+same-length c = search needs
+
+returns-2 : tie.Need-returns-2
+returns-2 c =
+    let call = c .before .before in
+    let told = call .before .before .before .before in
+    let given = told .before .before .before .before .args in
+    sheet-made (given .sheet .now) (told .wrapped2 .given .1) _ _ (given .form .now) (call .make-form .ensures .0) (call .make-form .ensures .1)
+
+pub make-wrapped-spec : {M : Type 1} → statement M
+make-wrapped-spec =
+    tie.close
+    (tie.spec
+    enum-known-wrapped
+    enum-known-wrapped-2
+    slice-aggregate-make-form
+    make-form-requires
+    returns
+    same-length
+    returns-2)

@@ -1,0 +1,3 @@
+pub mod Scanning
+pub mod Lower
+pub mod Ruling

@@ -1,0 +1,77 @@
+-- A right side of a rule, node by node from the last to the first.
+use mathlib.Core.Path.{_≡_}
+use mathlib.Core.List.{List}
+use Prim.Native.Nat.{ℕ, _*_, _-_, _≤_, _<_}
+use lib.ListN.{length, getD}
+use Rattle.terms.specs.Grammar.{Name, terminal, nonterminal, parameter, nothing, ruleAt, terminalRank, ruleRank, rankIn, Proper}
+use Rattle.terms.specs.Grammar.{Rule as Production}
+use Rattle.terms.specs.Form.{Rule}
+use Rattle.terms.specs.Check.{mostRules, mostNodes}
+use Rattle.skeletons.specs.Skeleton.{Skeleton, param, nth}
+use Rattle.skeletons.specs.Make as model
+use Rattle.skeletons.specs.Scan.{scan}
+use Rattle.skeletons.specs.Skeleton.{weight}
+use Rattle.cells.specs.Bytes.{Holds}
+use Rattle.cells.specs.Cells.{Stands}
+use Rattle.cells.specs.State.{Room, Grown, Stood}
+use Rattle.contraction.specs.Terminal.{Children, TerminalContracted}
+use Rattle.contraction.specs.Substitution.{Bounded, Instance, Instanced}
+use Rattle.cells.specs.declared.state.Free.{Free}
+use Rattle.cells.specs.declared.state.Made.{Made}
+
+-- a node of a rank over cells can be made, where roots has the cells of the lower rules
+abbrev pub NodeReady : List ℕ → List ℕ → Free → List ℕ → ℕ → List ℕ → Name → Type 0
+NodeReady form space free roots rank xs (terminal f) = Room 2 1 form space free × Children rank (free .cell) xs
+NodeReady form space free roots rank xs (nonterminal r) = (r < mostRules) × Instance form space free xs (getD roots r 0)
+NodeReady form space free roots rank xs (parameter j) = j < 4
+NodeReady form space free roots rank xs nothing = ⊥
+
+-- nothing is added, and the cell is j
+pub record Same (j : ℕ) (form space : List ℕ) (free : Free) (form′ space′ : List ℕ) (r : Made) : Type 0 where
+  pub rules : form′ ≡ form
+  pub cells : space′ ≡ space
+  pub made : r ≡ record { free = free; cell = j }
+
+-- what making it does
+abbrev pub NodeMade : List ℕ → List ℕ → Free → List ℕ → ℕ → List ℕ → Name → List ℕ → List ℕ → Made → Type 0
+NodeMade form space free roots rank xs (terminal f) form′ space′ r = TerminalContracted form space free f rank xs form′ space′ r
+NodeMade form space free roots rank xs (nonterminal n) form′ space′ r = Instanced form space free xs (getD roots n 0) form′ space′ r
+NodeMade form space free roots rank xs (parameter j) form′ space′ r = Same j form space free form′ space′ r
+NodeMade form space free roots rank xs nothing form′ space′ r = Unit {0}
+
+-- what is known of the rules below a number: their ranks, and the cells that represent their skeletons; and that the first cells are the parameters
+pub record Known (space : List ℕ) (free : Free) (ranks roots : List ℕ) (rules : List Production) (number : ℕ) (skeleton : ℕ → Skeleton) : Type 0 where
+  pub rooted : length roots ≡ mostRules
+  pub rank : (r : ℕ) → r < number → getD ranks r 0 ≡ ruleRank rules r
+  pub lower : (r : ℕ) → r < number → getD roots r 0 < free .cell
+  pub stands : (r : ℕ) → r < number → Stands space (getD roots r 0) (skeleton r)
+  pub bounded : (r : ℕ) → r < number → Bounded (ruleRank rules r) (skeleton r)
+  pub light : (r : ℕ) → r < number → weight (skeleton r) ≤ 4 * ruleRank rules r - 3
+  pub four : 4 ≤ free .cell
+  pub parameters : (j : ℕ) → j < 4 → Stands space j (param j)
+
+-- the nodes are those of a rule of a grammar, of which the lower rules are known, and there is room for what they make
+pub record RightSide (form space : List ℕ) (free : Free) (alphabet ranks roots nodes : List ℕ) : Type 0 where
+  pub rules : List Production
+  pub number : ℕ
+  pub made : List Rule
+  pub skeleton : ℕ → Skeleton
+  pub proper : Proper alphabet rules
+  pub low : (f : ℕ) → terminalRank alphabet f ≤ 4
+  pub inside : number < length rules
+  pub nodes-of : nodes ≡ ruleAt rules number .nodes
+  pub few : length nodes ≤ mostNodes
+  pub known : Known space free ranks roots rules number skeleton
+  pub held : Holds form made
+  pub counted : free .rule .0 ≡ length made
+  pub room : Room (16 * length nodes) (4 * length nodes) form space free
+
+-- the right side is scanned as in the model
+abbrev pub sideMade : {form space : List ℕ} {free : Free} {alphabet ranks roots nodes : List ℕ} → RightSide form space free alphabet ranks roots nodes → model.Made
+sideMade {alphabet = alphabet} {nodes = nodes} g =
+    let m = scan (rankIn alphabet (g .rules)) (g .skeleton) nodes (g .made) in
+    record { rules = m .rules; made = nth (m .made) 0 }
+
+pub record SideMade (form space : List ℕ) (free : Free) (alphabet ranks roots nodes form′ space′ : List ℕ) (r : Made) : Type 0 where
+  pub grown : RightSide form space free alphabet ranks roots nodes → Grown (16 * length nodes) (4 * length nodes) form space free form′ space′ (r .free)
+  pub stood : (g : RightSide form space free alphabet ranks roots nodes) → Stood (sideMade g) form′ space′ r

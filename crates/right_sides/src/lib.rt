@@ -1,0 +1,3 @@
+// The right sides of a grammar's rules, from which the rules of its form are made.
+pub mod rules;
+mod side;

@@ -1,0 +1,126 @@
+// The answers of the calls.
+use counting::answer::Size;
+use evaluation::evaluate::Evaluation;
+use form_bytes::rule::FormRule;
+use forms::rule::RuleReading;
+use labelling::answer::Label;
+use making::Making;
+use marking::answer::Mark;
+use plain_walk::answer::Walk;
+use rows::show::next_answer;
+use rows::show::print_number;
+use rows::show::say_refused;
+use rows::show::say_with;
+use rows::words::ACCEPTED;
+use rows::words::DECLINED;
+use rows::words::MASK;
+use rows::words::OVER;
+use rows::words::RULE;
+use rows::words::SIZE;
+use rows::words::TALLY;
+use rows::words::TERMINAL;
+use rows::words::WRITTEN;
+use rows::words::say;
+use tallies::answer::Marking;
+use tallies::tally::Step;
+use tallies::tally::Tally;
+use unfolding::unfold::Unfolding;
+use wrapping::wrap::Wrapping;
+
+pub fn say_making(made: Making) {
+    match made {
+        Making::Refused(n) => say_refused(n),
+        Making::Written(n) => say_with(WRITTEN, n as u64),
+    }
+}
+
+pub fn say_evaluation(evaluated: Evaluation) {
+    match evaluated {
+        Evaluation::Refused(n) => say_refused(n),
+        Evaluation::Mask(mask) => say_with(MASK, mask as u64),
+    }
+}
+
+pub fn say_size(counted: Size) {
+    match counted {
+        Size::Refused(n) => say_refused(n),
+        Size::Exact(nodes) => say_with(SIZE, nodes),
+        Size::Over => say(OVER),
+    }
+}
+
+pub fn say_label(found: Label) {
+    match found {
+        Label::Refused(n) => say_refused(n),
+        Label::At(terminal) => say_with(TERMINAL, terminal.0 as u64),
+    }
+}
+
+pub fn say_unfolding(unfolded: Unfolding) {
+    match unfolded {
+        Unfolding::Refused(n) => say_refused(n),
+        Unfolding::Written(n) => say_with(WRITTEN, n as u64),
+    }
+}
+
+pub fn say_walk(walked: Walk) {
+    match walked {
+        Walk::Refused(n) => say_refused(n),
+        Walk::Mask(mask) => say_with(MASK, mask as u64),
+    }
+}
+
+pub fn say_wrapping(wrapped: Wrapping) {
+    match wrapped {
+        Wrapping::Refused(n) => say_refused(n),
+        Wrapping::Written(n) => say_with(WRITTEN, n as u64),
+    }
+}
+
+// Kind, terminal, hole and four slots.
+fn say_rule(rule: FormRule) {
+    say_with(RULE, rule.kind as u64);
+    print_number(rule.terminal.0 as u64);
+    print_number(rule.hole as u64);
+    print_number(rule.slot0.0 as u64);
+    print_number(rule.slot1.0 as u64);
+    print_number(rule.slot2.0 as u64);
+    print_number(rule.slot3.0 as u64);
+}
+
+pub fn say_reading(reading: RuleReading) {
+    match reading {
+        RuleReading::Refused(n) => say_refused(n),
+        RuleReading::Read(rule) => say_rule(rule),
+    }
+}
+
+fn say_tally(tally: Tally) {
+    say_with(TALLY, tally.accepted as u64);
+    print_number(tally.declined as u64);
+    print_number(tally.turned_away as u64);
+}
+
+pub fn say_step(step: Step) {
+    match step {
+        Step::Refused(n) => say_refused(n),
+        Step::Moved(tally) => say_tally(tally),
+    }
+}
+
+fn say_mark(mark: Mark) {
+    match mark {
+        Mark::Refused(n) => say_refused(n),
+        Mark::Accepted(mask) => say_with(ACCEPTED, mask as u64),
+        Mark::Declined(mask) => say_with(DECLINED, mask as u64),
+    }
+}
+
+// The answer of a marking, and the tally that it leaves.
+pub fn say_marking(marking: Marking) {
+    let mark = marking.mark;
+    let tally = marking.tally;
+    say_mark(mark);
+    next_answer();
+    say_tally(tally);
+}

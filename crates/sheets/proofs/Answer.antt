@@ -1,0 +1,58 @@
+-- From the tests of a sheet to its reading.
+use mathlib.Core.Path.{_≡_, ap}
+use mathlib.Core.Bool.{true, false}
+use mathlib.Core.List.{List}
+use Prim.Native.Nat.{ℕ, zero, suc}
+use native.Mathlib.Omega.{arith}
+use lib.ListN.{length}
+use Rattle.terms.specs.Grammar.{nodeCount}
+use Rattle.terms.specs.Refusal.{outside, orElse}
+use Rattle.terms.specs.Sheet.{rulesBody, rulesOf, nodesOf, bodyOffset, bodyLength, body}
+use Rattle.terms.specs.Check.{alphabetRefusal, rulesRefusal, automatonRefusal, joins, sheetRefusal}
+use Rattle.terms.proofs.Test.{of-true}
+use Rattle.terms.proofs.Sheet.Bodies.{joined}
+use Rattle.grammars.specs.Rules.{reading}
+use Rattle.sheets.specs.Private.Bodies.{bodiesReading}
+use Rattle.sheets.specs.Sheet.{sheetAfter, sheetReading}
+use Rattle.grammars.specs.declared.rules.Counts.{Counts}
+use Rattle.grammars.specs.declared.rules.Rules as rules
+use Rattle.sheets.specs.declared.sheet.Reading.the-variants.{Refused, Sheet}
+
+module _ (s : List ℕ) where
+  pub wrong-length : outside 12 1832 (length s) ≡ true → Refused 1 ≡ sheetReading s
+  unfolding sheetRefusal
+  wrong-length e = rw e
+
+  module _ (fits : outside 12 1832 (length s) ≡ false) where
+    pub not-joined : joins s ≡ false → Refused 2 ≡ sheetReading s
+    unfolding sheetRefusal
+    not-joined h = rw (fits, h)
+
+    module _ (h : joins s ≡ true) where
+      -- the refusal is that of the bodies
+      abbrev of-bodies : ℕ
+      of-bodies = orElse (alphabetRefusal (body s 0)) (orElse (rulesRefusal (body s 0) (body s 1)) (orElse (automatonRefusal (body s 0) (body s 2)) 0))
+
+      same : sheetRefusal s ≡ of-bodies
+      unfolding sheetRefusal
+      same = rw (fits, h)
+
+      pub bodies-refused : {k : ℕ} → rules.the-variants.Refused k ≡ bodiesReading (body s 0) (body s 1) (body s 2) → Refused k ≡ sheetReading s
+      bodies-refused {k} e = rw same (go of-bodies e)
+        where
+          go : (n : ℕ) → rules.the-variants.Refused k ≡ reading n (rulesBody (body s 1) .rules) → Refused k ≡ sheetAfter n s
+          go zero e = absurd (let z : _≡_ {A = ℕ} 0 1 = cc in omega arith)
+          go (suc n) e = ap Refused (cc)
+
+      pub sheet-read : (counts : Counts) (t a : ℕ) → rules.the-variants.Read counts ≡ bodiesReading (body s 0) (body s 1) (body s 2) → t ≡ bodyLength s 0
+          → a ≡ bodyOffset s 2 → Sheet (record { terminals = t; rules = counts .rules; nodes = counts .nodes; automaton = a }) ≡ sheetReading s
+      unfolding rulesOf nodesOf
+      sheet-read counts t a e et ea = rw same (go of-bodies e)
+        where
+          go : (n : ℕ) → rules.the-variants.Read counts ≡ reading n (rulesBody (body s 1) .rules)
+              → Sheet (record { terminals = t; rules = counts .rules; nodes = counts .nodes; automaton = a }) ≡ sheetAfter n s
+          go zero e =
+              let r : counts .rules ≡ length (rulesBody (body s 1) .rules) = cc in
+              let n : counts .nodes ≡ nodeCount (rulesBody (body s 1) .rules) = cc in
+              rw (et, joined s (of-true (joins s) h) .terminals, ea, r, n)
+          go (suc n) e = absurd (let z : _≡_ {A = ℕ} 0 1 = cc in omega arith)

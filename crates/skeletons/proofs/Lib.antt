@@ -1,0 +1,12 @@
+pub mod Skeleton
+pub mod Sorting
+pub mod Good
+pub mod Step
+pub mod Build
+pub mod Weight
+pub mod Occurrence
+pub mod Correct
+pub mod Scan
+pub mod Result
+pub mod Bytes
+pub mod Example

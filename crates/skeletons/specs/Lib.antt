@@ -1,0 +1,5 @@
+pub mod Skeleton
+pub mod Make
+pub mod Scan
+pub mod Form
+pub mod FormOf

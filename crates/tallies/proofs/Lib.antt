@@ -1,0 +1,4 @@
+pub mod Full
+pub mod Counting
+pub mod Numbers
+pub mod Lists

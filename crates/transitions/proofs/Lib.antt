@@ -1,0 +1,5 @@
+pub mod Leads
+pub mod Linking
+pub mod Walking
+pub mod Node
+pub mod Checked

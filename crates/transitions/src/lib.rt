@@ -1,0 +1,3 @@
+// The step of a node through the transitions of an automaton.
+pub mod links;
+pub mod step;

@@ -1,0 +1,2 @@
+pub mod Unfolding
+pub mod Private

@@ -1,0 +1,2 @@
+// Unfolding: the tree of a form, written out.
+pub mod unfold;

@@ -1,0 +1,3 @@
+// Writing a sheet, and wrapping a plain tree into one.
+pub mod wrap;
+pub mod write;
