@@ -1,17 +1,16 @@
 -- The line of a sheet by its marking, with room for the largest sheet.
 use mathlib.Core.Path.{_≡_, refl, sym, ap, subst, _∙_}
 use mathlib.Core.Bool.{Bool, true, false}
-use mathlib.Core.List.{List, [], _∷_}
+use mathlib.Core.List.{List}
 use Prim.Native.Nat.{ℕ, zero, suc, _*_}
 use native.Mathlib.Omega.{arith}
 use borrow.Author.Tests.{le-ltb}
 use lib.ListN.{length, replicate, length-replicate}
-use Rattle.terms.specs.Test.{any}
 use Rattle.terms.specs.Sheet.{body, alphabetOf, rulesOf, nodesOf, Verdict, accepted, declined, sheetTree, sheetMask, sheetVerdict}
 use Rattle.terms.specs.Check.{sheetRefusal}
 use Rattle.terms.specs.FormBytes.{ruleOffset}
 use Rattle.terms.specs.Count.{sizeOf, capped}
-use Rattle.terms.specs.Calls.{makingRefusal, markingRefusal}
+use Rattle.terms.specs.Calls.{makingRefusal, sheetMarkingRefusal}
 use Rattle.terms.proofs.Test.{of-true}
 use Rattle.terms.proofs.Sheet.Grammar.{rules-passed}
 use Rattle.terms.proofs.Sheet.Passed.{sheet-passed}
@@ -24,15 +23,12 @@ use Rattle.mark_line.specs.Private.MarkedForm.{MarkedForm}
 use Rattle.mark_line.specs.declared.line.Line.{Line}
 use Rattle.mark_line.specs.declared.line.Line.the-variants.{Refused, Accepted, Declined}
 
--- what marking refuses with a zero tally: of the sheet alone, where there is room for the largest
-abbrev pub marked : List ℕ → ℕ → ℕ → ℕ
-marked sheet room numbers = markingRefusal (0 ∷ 0 ∷ 0 ∷ []) sheet room numbers
-
-room-enough : (sheet : List ℕ) (room numbers : ℕ) → room ≡ 24580 → numbers ≡ 2048 → marked sheet room numbers ≡ sheetRefusal sheet
-unfolding any markingRefusal makingRefusal nodesOf rulesOf
+-- where there is room for the largest sheet, marking refuses what is refused of the sheet alone
+room-enough : (sheet : List ℕ) (room numbers : ℕ) → room ≡ 24580 → numbers ≡ 2048 → sheetMarkingRefusal sheet room numbers ≡ sheetRefusal sheet
+unfolding sheetMarkingRefusal makingRefusal nodesOf rulesOf
 room-enough sheet room numbers a b = go (sheetRefusal sheet) refl
   where
-    go : (n : ℕ) → sheetRefusal sheet ≡ n → marked sheet room numbers ≡ n
+    go : (n : ℕ) → sheetRefusal sheet ≡ n → sheetMarkingRefusal sheet room numbers ≡ n
     go zero e =
         let few = rules-passed (alphabetOf sheet) (body sheet 1) (sheet-passed sheet e .rules) .few-nodes in
         rw (e, le-ltb room (ruleOffset (16 * nodesOf sheet)) (omega arith), le-ltb numbers (16 * nodesOf sheet) (omega arith))
@@ -66,9 +62,9 @@ form = replicate 24580 0
 abbrev relations : List ℕ
 relations = replicate 2048 0
 
-module _ (sheet : List ℕ) (r : Mark) (answer : orVerdict (marked sheet (length form) (length relations)) (sheetVerdict sheet) (sheetMask sheet) ≡ r) where
+module _ (sheet : List ℕ) (r : Mark) (answer : orVerdict (sheetMarkingRefusal sheet (length form) (length relations)) (sheetVerdict sheet) (sheetMask sheet) ≡ r) where
   abbrev refused : ℕ
-  refused = marked sheet (length form) (length relations)
+  refused = sheetMarkingRefusal sheet (length form) (length relations)
 
   only-sheet : refused ≡ sheetRefusal sheet
   only-sheet = room-enough sheet (length form) (length relations) (length-replicate {A = ℕ} 24580 0) (length-replicate {A = ℕ} 2048 0)

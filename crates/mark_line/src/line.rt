@@ -7,8 +7,7 @@ use counting::size::size;
 use form_bytes::layout;
 use making::RULES_FOR_NODE;
 use marking::answer::Mark;
-use tallies::mark::mark;
-use tallies::tally::Tally;
+use marking::mark::mark_sheet;
 ghost use mathlib.Core.Path.{_≡_};
 ghost use Rattle.terms.specs.Sheet.{sheetTree};
 ghost use Rattle.terms.specs.Count.{sizeOf, capped};
@@ -48,14 +47,7 @@ pub fn line_of(sheet: &[u8]) -> Line
 {
     let mut form = [0u8; LONGEST_FORM];
     let mut relations = [0u64; MOST_RULES];
-    let tally = Tally {
-        accepted: 0,
-        declined: 0,
-        turned_away: 0,
-    };
-    let marking = mark(sheet, &mut form, &mut relations, tally);
-    let answer = marking.mark;
-    match answer {
+    match mark_sheet(sheet, &mut form, &mut relations) {
         Mark::Refused(n) => Line::Refused(n),
         Mark::Accepted(mask) => Line::Accepted(mask, size_of(sheet, &form)),
         Mark::Declined(mask) => Line::Declined(mask, size_of(sheet, &form)),

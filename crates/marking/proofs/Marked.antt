@@ -1,16 +1,14 @@
 -- What marking a sheet answers and leaves, by what was read of it and by the lengths of the slices.
 use mathlib.Core.Path.{_≡_, refl, sym, ap, _∙_}
-use mathlib.Core.Bool.{false}
-use mathlib.Core.List.{List, []}
+use mathlib.Core.List.{List}
 use Prim.Native.Nat.{ℕ, zero, suc, _*_, _-_, _≤_, _<_}
 use native.Mathlib.Omega.{arith}
 use borrow.Author.Tests.{lt-ltb, le-ltb}
 use lib.ListN.{length, take, drop}
-use Rattle.terms.specs.Test.{any}
 use Rattle.terms.specs.Tree.{preorder}
 use Rattle.terms.specs.Sheet.{alphabetOf, rulesOf, automatonOf, finals, Verdict, sheetTree, sheetMask, sheetVerdict}
 use Rattle.terms.specs.FormBytes.{ruleOffset}
-use Rattle.terms.specs.Calls.{lentAfter, rulesAsked, full, markingRefusal, makingRefusal, evaluationRefusal, relationsOf, formMask, walkMask}
+use Rattle.terms.specs.Calls.{lentAfter, rulesAsked, sheetMarkingRefusal, makingRefusal, evaluationRefusal, relationsOf, formMask, walkMask}
 use Rattle.terms.specs.Demand.{FormOfSheet, Demand3}
 use Rattle.terms.proofs.Refusal.{is-first}
 use Rattle.terms.proofs.Demand.{walk-answers, form-meets}
@@ -44,28 +42,23 @@ module _ {refusal : ℕ} (sheet form relations : List ℕ) (verdict : Verdict) (
 
 -- What marking refuses of a sheet.
 
--- where no counts are looked at, none is full
-pub none-full : any full [] ≡ false
-unfolding any
-none-full = refl
-
 module _ (s : List ℕ) (room numbers : ℕ) where
   -- form making's refusal
-  pub not-made : {n : ℕ} → n ≡ makingRefusal s room → (n ≡ 0 → ⊥) → n ≡ markingRefusal [] s room numbers
-  unfolding markingRefusal
-  not-made e h = rw none-full (is-first _ e h)
+  pub not-made : {n : ℕ} → n ≡ makingRefusal s room → (n ≡ 0 → ⊥) → n ≡ sheetMarkingRefusal s room numbers
+  unfolding sheetMarkingRefusal
+  not-made e h = is-first _ e h
 
 module _ {s : List ℕ} {l : Layout} (read : SheetRead s l) (room numbers : ℕ) where
-  pub form-short : room < ruleOffset (16 * l .nodes) → 17 ≡ markingRefusal [] s room numbers
+  pub form-short : room < ruleOffset (16 * l .nodes) → 17 ≡ sheetMarkingRefusal s room numbers
   form-short h = not-made s room numbers (too-short read room h) (λ e. omega arith)
 
-  pub numbers-short : ruleOffset (16 * l .nodes) ≤ room → numbers < 16 * l .nodes → 19 ≡ markingRefusal [] s room numbers
-  unfolding markingRefusal
-  numbers-short h k = rw (none-full, sym (long-enough read room h), lt-ltb numbers (rulesAsked s) (rw (read .nodes) at k))
+  pub numbers-short : ruleOffset (16 * l .nodes) ≤ room → numbers < 16 * l .nodes → 19 ≡ sheetMarkingRefusal s room numbers
+  unfolding sheetMarkingRefusal
+  numbers-short h k = rw (sym (long-enough read room h), lt-ltb numbers (rulesAsked s) (rw (read .nodes) at k))
 
-  pub none-short : ruleOffset (16 * l .nodes) ≤ room → 16 * l .nodes ≤ numbers → 0 ≡ markingRefusal [] s room numbers
-  unfolding markingRefusal
-  none-short h k = rw (none-full, sym (long-enough read room h), le-ltb numbers (rulesAsked s) (rw (read .nodes) at k))
+  pub none-short : ruleOffset (16 * l .nodes) ≤ room → 16 * l .nodes ≤ numbers → 0 ≡ sheetMarkingRefusal s room numbers
+  unfolding sheetMarkingRefusal
+  none-short h k = rw (sym (long-enough read room h), le-ltb numbers (rulesAsked s) (rw (read .nodes) at k))
 
 -- A sheet that was read.
 

@@ -4,7 +4,7 @@ use mathlib.Core.List.{List}
 use Prim.Native.Nat.{ℕ, zero, suc}
 use lib.ListN.{take}
 use Rattle.terms.specs.Sheet.{alphabetOf, rulesOf, automatonOf, Verdict, accepted, declined, sheetMask, sheetVerdict}
-use Rattle.terms.specs.Calls.{lentAfter, markingRefusal, relationsOf}
+use Rattle.terms.specs.Calls.{lentAfter, sheetMarkingRefusal, relationsOf}
 use Rattle.making.specs.Making.{FormWritten}
 use Rattle.marking.specs.declared.answer.Mark.{Mark}
 use Rattle.marking.specs.declared.answer.Mark.the-variants.{Refused, Accepted, Declined}
@@ -15,9 +15,9 @@ orVerdict zero accepted mask = Accepted mask
 orVerdict zero declined mask = Declined mask
 orVerdict (suc n) verdict mask = Refused (suc n)
 
--- marking a sheet with these counts in the tally and so many form bytes and numbers lent (01 Refusals)
-abbrev pub markOf : List ℕ → List ℕ → ℕ → ℕ → Mark
-markOf counts sheet room numbers = orVerdict (markingRefusal counts sheet room numbers) (sheetVerdict sheet) (sheetMask sheet)
+-- marking a sheet with so many form bytes and numbers lent (01 Refusals)
+abbrev pub markOf : List ℕ → ℕ → ℕ → Mark
+markOf sheet room numbers = orVerdict (sheetMarkingRefusal sheet room numbers) (sheetVerdict sheet) (sheetMask sheet)
 
 -- Lent slices.
 

@@ -10,11 +10,10 @@ use sheets::sheet::Layout;
 use sheets::sheet::Reading;
 use sheets::sheet::read_sheet;
 ghost use mathlib.Core.Path.{_≡_};
-ghost use mathlib.Core.List.{[]};
 ghost use Prim.Native.Nat.{_*_, _≤_};
 ghost use lib.ListN.{length};
 ghost use Rattle.terms.specs.Sheet.{finals, sheetMask, sheetVerdict};
-ghost use Rattle.terms.specs.Calls.{markingRefusal};
+ghost use Rattle.terms.specs.Calls.{sheetMarkingRefusal};
 ghost use Rattle.making.specs.Private.Read.{ReadWithRoom};
 ghost use Rattle.marking.specs.Marking.{orVerdict, markOf, SlicesLeft};
 ghost use Rattle.marking.specs.Private.Verdict.{verdictOn};
@@ -48,10 +47,11 @@ fn mark_read(sheet: &[u8], layout: Layout, form: &mut [u8], relations: &mut [u64
     verdict(&sheet[automaton..], mask)
 }
 
-// Marks a sheet without counting the answer.
+// Marks a sheet without a tally: refused by 1 to 16 for the sheet, 17 for the form's slice, 19 for the slice of numbers. The slices end as form making and
+// evaluation leave them.
 pub fn mark_sheet(sheet: &[u8], form: &mut [u8], relations: &mut [u64]) -> Mark
-    ensures { λ r. ⌜ r ≡ markOf [] (now (sheet .entry)) (length (now (form .entry))) (length (now (relations .entry))) ⌝ }
-    ensures { λ _. ⌜ SlicesLeft (markingRefusal [] (now (sheet .entry)) (length (now (form .entry))) (length (now (relations .entry)))) (now (sheet .entry)) (now (form .exit)) (now (form .entry)) (now (relations .exit)) (now (relations .entry)) ⌝ }
+    ensures { λ r. ⌜ r ≡ markOf (now (sheet .entry)) (length (now (form .entry))) (length (now (relations .entry))) ⌝ }
+    ensures { λ _. ⌜ SlicesLeft (sheetMarkingRefusal (now (sheet .entry)) (length (now (form .entry))) (length (now (relations .entry)))) (now (sheet .entry)) (now (form .exit)) (now (form .entry)) (now (relations .exit)) (now (relations .entry)) ⌝ }
 {
     match read_sheet(sheet) {
         Reading::Refused(n) => Mark::Refused(n),

@@ -1,13 +1,13 @@
 -- Whether some count of a tally cannot move on, and what a step does where every count can.
-use mathlib.Core.Path.{_≡_, refl, ap, _∙_}
+use mathlib.Core.Path.{_≡_, refl, sym, ap, _∙_}
 use mathlib.Core.Bool.{Bool, true, false, _||_}
-use mathlib.Core.List.{List, []}
+use mathlib.Core.List.{List}
 use Prim.Native.Nat.{ℕ, _^_, _-_}
 use borrow.Author.Tests.{eqb-false, eq-eqb, ne-eqb}
 use Rattle.terms.specs.Test.{any}
-use Rattle.terms.specs.Calls.{full, markingRefusal}
+use Rattle.terms.specs.Calls.{full, sheetMarkingRefusal, markingRefusal}
 use Rattle.terms.proofs.Test.{or-false}
-use Rattle.marking.proofs.Marked.{none-full}
+use Rattle.terms.proofs.Refusal.{or-none}
 use Rattle.tallies.specs.declared.tally.Tally.{Tally}
 use Rattle.tallies.specs.declared.tally.Step.{Step}
 use Rattle.tallies.specs.declared.tally.Step.the-variants.{Refused, Moved}
@@ -66,6 +66,6 @@ module _ (t : Tally) where
     unfolding markingRefusal
     refused-full e = rw e
 
-    pub not-full : isFull t ≡ false → markingRefusal [] s room numbers ≡ markingRefusal (counts t) s room numbers
+    pub not-full : isFull t ≡ false → sheetMarkingRefusal s room numbers ≡ markingRefusal (counts t) s room numbers
     unfolding markingRefusal
-    not-full e = rw (e, none-full)
+    not-full e = rw e (sym (or-none (sheetMarkingRefusal s room numbers)))

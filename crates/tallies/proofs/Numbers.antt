@@ -14,7 +14,7 @@ use Rattle.terms.specs.Grammar.{Rule, ruleAt, ruleRank, rankIn, allAllowed, isP
 use Rattle.terms.specs.Sheet.{contentsLength, body, alphabetOf, rulesBody, automatonOf, stateCount, finals, transitionCount}
 use Rattle.terms.specs.Check.{mostTerminals, mostRules, mostNodes, highestRank, longestSheet, alphabetRefusal, isOne, lone, ruleRefusal, rulesRefusal, transitionFits, wrongLength, wrongStates, automatonRefusal, joins, sheetRefusal}
 use Rattle.terms.specs.FormBytes.{ruleOffset}
-use Rattle.terms.specs.Calls.{rulesAsked, full, makingRefusal, markingRefusal}
+use Rattle.terms.specs.Calls.{rulesAsked, full, makingRefusal, sheetMarkingRefusal, markingRefusal}
 
 -- rows of numbers up to k
 none : {k : ℕ} → 0 ≤ k
@@ -79,10 +79,10 @@ abbrev pub Number : ℕ → Type 0
 Number n = (n ≤ 16) ⊎ (n ≡ 17) ⊎ (n ≡ 19) ⊎ (n ≡ 25)
 
 pub marking-number : (counts s : List ℕ) (room numbers : ℕ) → Number (markingRefusal counts s room numbers)
-unfolding markingRefusal makingRefusal
+unfolding markingRefusal sheetMarkingRefusal makingRefusal
 marking-number counts s room numbers = go (any full counts) (ltb room (ruleOffset (rulesAsked s))) (sheetRefusal s) (ltb numbers (rulesAsked s)) (sheet-number s)
   where
-    go : (a b : Bool) (n : ℕ) (d : Bool) → n ≤ 16 → Number (first (25 when a ∷ first (n ∷ 17 when b ∷ []) ∷ 19 when d ∷ []))
+    go : (a b : Bool) (n : ℕ) (d : Bool) → n ≤ 16 → Number (first (25 when a ∷ first (first (n ∷ 17 when b ∷ []) ∷ 19 when d ∷ []) ∷ []))
     go true b n d h = inr (inr (inr refl))
     go false b (suc n) d h = inl h
     go false true zero d h = inr (inl refl)

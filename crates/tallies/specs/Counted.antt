@@ -3,15 +3,17 @@ use mathlib.Core.Bool.{cond}
 use mathlib.Core.List.{List}
 use Prim.Native.Nat.{ℕ}
 use Rattle.terms.specs.Refusal.{outside}
+use Rattle.terms.specs.Sheet.{sheetMask, sheetVerdict}
+use Rattle.terms.specs.Calls.{markingRefusal}
 use Rattle.marking.specs.declared.answer.Mark.{Mark}
 use Rattle.marking.specs.declared.answer.Mark.the-variants.{Refused, Accepted, Declined}
-use Rattle.marking.specs.Marking.{markOf}
+use Rattle.marking.specs.Marking.{orVerdict}
 use Rattle.tallies.specs.declared.tally.Tally.{Tally}
 use Rattle.tallies.specs.Tally.{counts, higher}
 
 -- marking a sheet with a tally (01 Size, label, wrap, tally)
 abbrev pub marking : Tally → List ℕ → ℕ → ℕ → Mark
-marking tally sheet room numbers = markOf (counts tally) sheet room numbers
+marking tally sheet room numbers = orVerdict (markingRefusal (counts tally) sheet room numbers) (sheetVerdict sheet) (sheetMask sheet)
 
 -- how an answer moves the tally: accepted, declined and refused by 1 to 16 move their counts by one (01 Size, label, wrap, tally)
 abbrev pub counted : Mark → Tally → Tally

@@ -33,13 +33,17 @@ rulesAsked s = 16 * nodesOf s
 unfoldable pub makingRefusal : List ℕ → ℕ → ℕ
 makingRefusal s room = first (sheetRefusal s ∷ 17 when (ltb room (ruleOffset (rulesAsked s))) ∷ [])
 
+-- marking a sheet without a tally: 1 to 16, 17, 19 (01 Refusals)
+unfoldable pub sheetMarkingRefusal : List ℕ → ℕ → ℕ → ℕ
+sheetMarkingRefusal s room numbers = first (makingRefusal s room ∷ 19 when (ltb numbers (rulesAsked s)) ∷ [])
+
 -- a count of the tally that cannot move on (01 Refusals, 25)
 abbrev pub full : ℕ → Bool
 full n = eqb n (2 ^ 32 - 1)
 
--- marking, with the counts of the tally: 25, 1 to 16, 17, 19 (01 Refusals)
+-- marking, with the counts of the tally: 25, then what is refused without a tally (01 Refusals)
 unfoldable pub markingRefusal : List ℕ → List ℕ → ℕ → ℕ → ℕ
-markingRefusal counts s room numbers = first (25 when (any full counts) ∷ makingRefusal s room ∷ 19 when (ltb numbers (rulesAsked s)) ∷ [])
+markingRefusal counts s room numbers = first (25 when (any full counts) ∷ sheetMarkingRefusal s room numbers ∷ [])
 
 -- Calls on a form: 3, 4, (14 to 16 for a mask), 18, 19, then 20 or 21.
 

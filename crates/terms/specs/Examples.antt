@@ -7,7 +7,7 @@ use Rattle.terms.specs.Sheet.{nodesOf, Verdict, accepted, declined, shee
 use Rattle.terms.specs.Check.{sheetRefusal}
 use Rattle.terms.specs.FormBytes.{formTree}
 use Rattle.terms.specs.Count.{Size, exact, sizeOf, sizeAnswer}
-use Rattle.terms.specs.Calls.{makingRefusal, markingRefusal, openingRefusal, readingRefusal, evaluationRefusal, relationsOf, formMask, sizeRefusal, unfoldingRefusal, labelRefusal, labelAt, countsOf, walkRefusal, walkMask, walkMasks, wrapRefusal}
+use Rattle.terms.specs.Calls.{makingRefusal, sheetMarkingRefusal, markingRefusal, openingRefusal, readingRefusal, evaluationRefusal, relationsOf, formMask, sizeRefusal, unfoldingRefusal, labelRefusal, labelAt, countsOf, walkRefusal, walkMask, walkMasks, wrapRefusal}
 
 -- the n bytes that a hexadecimal numeral writes, the first byte first (01 Sheets for the desk)
 unfoldable pub hex : ℕ → ℕ → List ℕ
@@ -274,6 +274,9 @@ calls =
     ∷ is (makingRefusal W 2116) 0
     ∷ is (makingRefusal (wWith 34 0x03) 0) 16
     -- marking: 25, 1 to 16, 17, 19
+    ∷ is (sheetMarkingRefusal W 2116 176) 0
+    ∷ is (sheetMarkingRefusal W 2115 175) 17
+    ∷ is (sheetMarkingRefusal W 2116 175) 19
     ∷ is (markingRefusal (0 ∷ 0 ∷ 0 ∷ []) W 2116 176) 0
     ∷ is (markingRefusal (0 ∷ 0 ∷ 0 ∷ []) W 2116 175) 19
     ∷ is (markingRefusal (0 ∷ 0 ∷ 0 ∷ []) W 2115 175) 17

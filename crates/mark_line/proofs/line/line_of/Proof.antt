@@ -6,20 +6,27 @@ use Rattle.mark_line.proofs.Lined.{lined, form-marked}
 use Rattle.mark_line.proofs.line.line_of.Statement.{statement}
 use Rattle.mark_line.proofs.line.line_of.Tie as tie
 
-slice-aggregate-mark : tie.Need-slice-aggregate-mark
-slice-aggregate-mark c = search needs
+-- the sheet is marked, and the form is there
+abbrev marked : tie.After-form2 → tie.After-mark-sheet
+marked c = c .before
 
-slice-aggregate-mark-2 : tie.Need-slice-aggregate-mark-2
-slice-aggregate-mark-2 c = search needs
+abbrev begin : tie.After-mark-sheet → tie.Start
+begin c = c .before .before .before .before
 
-mark-requires : tie.Need-mark-requires
-mark-requires c κs = search needs
+slice-aggregate-mark-sheet : tie.Need-slice-aggregate-mark-sheet
+slice-aggregate-mark-sheet c = search needs
 
-enum-known-answer : tie.Need-enum-known-answer
-enum-known-answer c = search needs
+slice-aggregate-mark-sheet-2 : tie.Need-slice-aggregate-mark-sheet-2
+slice-aggregate-mark-sheet-2 c = search needs
 
-enum-known-answer-2 : tie.Need-enum-known-answer-2
-enum-known-answer-2 c = search needs
+mark-sheet-requires : tie.Need-mark-sheet-requires
+mark-sheet-requires c κs = search needs
+
+enum-known-n : tie.Need-enum-known-n
+enum-known-n c = search needs
+
+enum-known-mask : tie.Need-enum-known-mask
+enum-known-mask c = search needs
 
 slice-aggregate-size-of : tie.Need-slice-aggregate-size-of
 slice-aggregate-size-of c = search needs
@@ -27,13 +34,12 @@ slice-aggregate-size-of c = search needs
 size-of-requires : tie.Need-size-of-requires
 size-of-requires c κs =
     let told = c .before .before in
-    let back = told .before .before .before in
-    let call = back .before in
-    let sheet = call .before .before .before .before .args .sheet .now in
-    form-marked sheet _ (sym (call .mark .ensures .0) ∙ told .answer2 .given .1) refl _ _ (back .form2 .given) (call .mark .ensures .1 .1)
+    let form = told .before .before .before in
+    let call = marked form in
+    form-marked (begin call .args .sheet .now) _ (sym (call .mark-sheet .ensures .0) ∙ told .mask .given .1) refl _ _ (form .form2 .given) (call .mark-sheet .ensures .1)
 
-enum-known-answer-3 : tie.Need-enum-known-answer-3
-enum-known-answer-3 c = search needs
+enum-known-mask-2 : tie.Need-enum-known-mask-2
+enum-known-mask-2 c = search needs
 
 slice-aggregate-size-of-2 : tie.Need-slice-aggregate-size-of-2
 slice-aggregate-size-of-2 c = search needs
@@ -41,46 +47,42 @@ slice-aggregate-size-of-2 c = search needs
 size-of-requires-2 : tie.Need-size-of-requires-2
 size-of-requires-2 c κs =
     let told = c .before .before in
-    let back = told .before .before .before in
-    let call = back .before in
-    let sheet = call .before .before .before .before .args .sheet .now in
-    form-marked sheet _ (sym (call .mark .ensures .0) ∙ told .answer3 .given .1) refl _ _ (back .form2 .given) (call .mark .ensures .1 .1)
+    let form = told .before .before .before in
+    let call = marked form in
+    form-marked (begin call .args .sheet .now) _ (sym (call .mark-sheet .ensures .0) ∙ told .mask2 .given .1) refl _ _ (form .form2 .given) (call .mark-sheet .ensures .1)
 
 returns : tie.Need-returns
 returns c =
     let told = c .before in
-    let call = told .before .before .before .before in
-    let sheet = call .before .before .before .before .args .sheet .now in
-    lined sheet _ (sym (call .mark .ensures .0) ∙ told .answer .given .1)
+    let call = marked (told .before .before .before) in
+    lined (begin call .args .sheet .now) _ (sym (call .mark-sheet .ensures .0) ∙ told .n .given .1)
 
 returns-2 : tie.Need-returns-2
 returns-2 c =
     let told = c .before .before .before in
-    let call = told .before .before .before .before in
-    let sheet = call .before .before .before .before .args .sheet .now in
-    ap (Accepted (told .answer2 .given .0 .0)) (c .size-of .ensures)
-    ∙ lined sheet _ (sym (call .mark .ensures .0) ∙ told .answer2 .given .1)
+    let call = marked (told .before .before .before) in
+    ap (Accepted (told .mask .given .0 .0)) (c .size-of .ensures)
+    ∙ lined (begin call .args .sheet .now) _ (sym (call .mark-sheet .ensures .0) ∙ told .mask .given .1)
 
 returns-3 : tie.Need-returns-3
 returns-3 c =
     let told = c .before .before .before in
-    let call = told .before .before .before .before in
-    let sheet = call .before .before .before .before .args .sheet .now in
-    ap (Declined (told .answer3 .given .0 .0)) (c .size-of2 .ensures)
-    ∙ lined sheet _ (sym (call .mark .ensures .0) ∙ told .answer3 .given .1)
+    let call = marked (told .before .before .before) in
+    ap (Declined (told .mask2 .given .0 .0)) (c .size-of2 .ensures)
+    ∙ lined (begin call .args .sheet .now) _ (sym (call .mark-sheet .ensures .0) ∙ told .mask2 .given .1)
 
 pub line-of-spec : {M : Type 1} → statement M
 line-of-spec =
     tie.close
     (tie.spec
-    slice-aggregate-mark
-    slice-aggregate-mark-2
-    mark-requires
-    enum-known-answer
-    enum-known-answer-2
+    slice-aggregate-mark-sheet
+    slice-aggregate-mark-sheet-2
+    mark-sheet-requires
+    enum-known-n
+    enum-known-mask
     slice-aggregate-size-of
     size-of-requires
-    enum-known-answer-3
+    enum-known-mask-2
     slice-aggregate-size-of-2
     size-of-requires-2
     returns
