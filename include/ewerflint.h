@@ -1,8 +1,17 @@
-/* Ewerflint: the calls for C. Link libcapi.a.
+/* Ewerflint: the calls for C, on x86-64. Link libcapi.a, which needs nothing but memcpy and memset.
  *
- * Each function returns 0 or the number of its refusal (document 01, "Refusals with a sheet for each"). A slice is a pointer and a
- * length in elements; the pointer is never null, and a slice of length 0 is not read. Results go through pointers. A refusal leaves
- * every slice and every result as it was, save that ewf_mark counts refusals 1 to 16 in the tally. Slices that are written to overlap nothing else. */
+ * Answers. Each function returns 0, or the number of its refusal (enum ewf_refusal); what is tested first is named first. Results go
+ * through pointers. A refusal leaves every slice and every result as it was, save that ewf_mark counts refusals 1 to 16 in its tally.
+ *
+ * Slices. A slice is a pointer and a length in elements. The bytes may be anything: nothing is asked of them, and every length is allowed.
+ * No pointer is null, also where the length is 0, and each is aligned for its type. What a call may write, slices and results, overlaps
+ * nothing else that the call is given; what it only reads may overlap. Elements behind those that a call writes are kept.
+ *
+ * Lengths. G is the number of all right-side nodes of a sheet, parameters included: the sum of the node counts of its rules. R is the
+ * number of rules of a form, which EWF_RULES reads from its bytes. Who does not want to count lends the largest lengths.
+ *
+ * Threads and memory. A call keeps nothing behind: no state, no pointer, no heap. Calls may run at the same time on several threads,
+ * where none writes what another one is given. */
 #ifndef EWERFLINT_H
 #define EWERFLINT_H
 
@@ -13,60 +22,128 @@
 extern "C" {
 #endif
 
-/* The one-hole form of a sheet. form: 4 + 192 * G bytes for G right-side nodes. */
+/* The refusals of document 01, by number. */
+enum ewf_refusal {
+    EWF_NOT_REFUSED = 0,
+    EWF_SHEET_LENGTH = 1,      /* a sheet under 12 or over 1,832 bytes */
+    EWF_CONTENTS = 2,          /* the table of contents does not join */
+    EWF_TERMINAL_COUNT = 3,    /* no terminal, or over 32 */
+    EWF_TERMINAL_RANK = 4,     /* a terminal's rank over 4 */
+    EWF_RULES_END = 5,         /* no rules, or they do not end at a rule's end */
+    EWF_RULE_COUNT = 6,        /* over 64 rules */
+    EWF_NODE_COUNT = 7,        /* over 128 right-side nodes */
+    EWF_RULE_RANK = 8,         /* a rule's rank over 4 */
+    EWF_NODE_NAME = 9,         /* a node names nothing */
+    EWF_RIGHT_SIDE = 10,       /* the nodes of a rule are not one whole tree */
+    EWF_PARAMETER = 11,        /* a parameter does not occur exactly once */
+    EWF_LONE_PARAMETER = 12,   /* a right side is a lone parameter */
+    EWF_START_RANK = 13,       /* the last rule has parameters */
+    EWF_AUTOMATON_LENGTH = 14, /* an automaton under 2 bytes, a cut transition, or over 255 of them */
+    EWF_STATES = 15,           /* the states or the final states are out of range */
+    EWF_TRANSITION = 16,       /* a transition names something that does not exist */
+    EWF_FORM_SHORT = 17,       /* the slice for the form is too short */
+    EWF_FORM = 18,             /* the bytes are no form that is valid for the alphabet */
+    EWF_WORK_SHORT = 19,       /* a slice to work in is too short */
+    EWF_TREE_SHORT = 20,       /* the slice for the tree is too short */
+    EWF_NO_PLACE = 21,         /* the position is not below the size, or the rule's number not below R */
+    EWF_TREE_LONG = 22,        /* a tree is too long */
+    EWF_TREE = 23,             /* the bytes are not one tree over the alphabet */
+    EWF_SHEET_SHORT = 24,      /* the slice for the sheet is too short */
+    EWF_TALLY_FULL = 25        /* some count of the tally is 4,294,967,295 */
+};
+
+/* The lengths that calls ask for, in elements, by G and R. */
+#define EWF_FORM_RULES(G) (16 * (size_t)(G))           /* the most rules of the form of a sheet; the numbers that marking asks for */
+#define EWF_FORM_LENGTH(R) (4 + 12 * (size_t)(R))      /* the bytes of a form of R rules */
+#define EWF_FORM_ASKED(G) EWF_FORM_LENGTH(EWF_FORM_RULES(G)) /* the bytes that form making and marking ask for */
+#define EWF_RELATIONS(R) ((size_t)(R))                 /* the numbers that evaluation asks for */
+#define EWF_COUNTS(R) (2 * (size_t)(R))                /* the numbers that size, label and unfolding ask for */
+#define EWF_RULE_NUMBERS 7                             /* the numbers of a rule that is read */
+#define EWF_TALLY_COUNTS 3                             /* the counts of a tally: accepted, declined, turned away */
+
+/* R of a form that was made, or that some call did not refuse. */
+#define EWF_RULES(form) ((size_t)(form)[0] + 256 * (size_t)(form)[1])
+
+/* The largest of each. */
+#define EWF_LONGEST_SHEET 1832
+#define EWF_MOST_NODES 128                             /* G of a sheet, and the nodes of a tree that is wrapped */
+#define EWF_MOST_RULES 2048                            /* R of a form */
+#define EWF_LONGEST_FORM EWF_FORM_LENGTH(EWF_MOST_RULES)
+#define EWF_MOST_COUNTS EWF_COUNTS(EWF_MOST_RULES)
+#define EWF_MOST_WALKED 4096                           /* the nodes of a tree that is walked */
+
+/* The one-hole form of a sheet, and its length.
+ * form: EWF_FORM_ASKED(G) bytes, EWF_LONGEST_FORM at most.
+ * Refused by 1 to 16 (the sheet), 17. */
 uint8_t ewf_make_form(const uint8_t *sheet, size_t sheet_length,
                       uint8_t *form, size_t form_length,
                       size_t *written);
 
-/* The mask of the states that runs on the form's tree end in. relations: a number for each rule. */
+/* The mask of the states that runs on the form's tree end in: bit q for state q.
+ * relations: EWF_RELATIONS(R) numbers; afterwards number i is the relation of rule i.
+ * Refused by 3, 4 (the alphabet), 14, 15, 16 (the automaton), 18, 19. */
 uint8_t ewf_evaluate(const uint8_t *alphabet, size_t alphabet_length,
                      const uint8_t *automaton, size_t automaton_length,
                      const uint8_t *form, size_t form_length,
                      uint64_t *relations, size_t relations_length,
                      uint8_t *mask);
 
-/* The form's tree in preorder. counts: two numbers for each rule. */
+/* The form's tree in preorder, and how many nodes it has.
+ * counts: EWF_COUNTS(R) numbers; tree: as many bytes as the tree has nodes, which ewf_size tells.
+ * Refused by 3, 4, 18, 19 (counts), 20 (tree). */
 uint8_t ewf_unfold(const uint8_t *alphabet, size_t alphabet_length,
                    const uint8_t *form, size_t form_length,
                    uint64_t *counts, size_t counts_length,
                    uint8_t *tree, size_t tree_length,
                    size_t *length);
 
-/* How many nodes the form's tree has; UINT64_MAX stands for "over". counts: two numbers for each rule. */
+/* How many nodes the form's tree has; UINT64_MAX represents "over", a size of 2^64 - 1 or more.
+ * counts: EWF_COUNTS(R) numbers; afterwards numbers 2 i and 2 i + 1 are the nodes of rule i, and those before its open place.
+ * Refused by 3, 4, 18, 19. */
 uint8_t ewf_size(const uint8_t *alphabet, size_t alphabet_length,
                  const uint8_t *form, size_t form_length,
                  uint64_t *counts, size_t counts_length,
                  uint64_t *size);
 
-/* The terminal at a preorder position, the root being 0. counts: two numbers for each rule. */
+/* The terminal at a preorder position, the root being 0.
+ * counts: EWF_COUNTS(R) numbers.
+ * Refused by 3, 4, 18, 19, 21. */
 uint8_t ewf_label(const uint8_t *alphabet, size_t alphabet_length,
                   const uint8_t *form, size_t form_length,
                   uint64_t position,
                   uint64_t *counts, size_t counts_length,
                   uint8_t *terminal);
 
-/* Kind, terminal, hole and four slots of a rule. rule: seven numbers; with fewer, 19 comes after 18 and before 21. */
+/* The rule of a number: kind, terminal, hole and four slots.
+ * rule: EWF_RULE_NUMBERS numbers.
+ * Refused by 3, 4, 18, 19, 21. */
 uint8_t ewf_read_rule(const uint8_t *alphabet, size_t alphabet_length,
                       const uint8_t *form, size_t form_length,
                       size_t number,
                       uint16_t *rule, size_t rule_length);
 
-/* The mask of the states that runs on a preorder tree end in. masks: a byte for each node. */
+/* The mask of the states that runs on a preorder tree end in.
+ * tree: at most EWF_MOST_WALKED bytes; masks: a byte for each of them; afterwards byte i is the mask of the subtree at position i.
+ * Refused by 3, 4, 14, 15, 16, 22, 23 (the tree), 19. */
 uint8_t ewf_walk(const uint8_t *alphabet, size_t alphabet_length,
                  const uint8_t *automaton, size_t automaton_length,
                  const uint8_t *tree, size_t tree_length,
                  uint8_t *masks, size_t masks_length,
                  uint8_t *mask);
 
-/* A sheet of one rule whose tree is the tree given. */
+/* A sheet of one rule whose tree is the tree given, and its length.
+ * tree: at most EWF_MOST_NODES bytes; sheet: EWF_LONGEST_SHEET bytes are enough.
+ * Refused by 3, 4, 22, 23 (the tree), 14, 15, 16, 24. */
 uint8_t ewf_wrap(const uint8_t *alphabet, size_t alphabet_length,
                  const uint8_t *tree, size_t tree_length,
                  const uint8_t *automaton, size_t automaton_length,
                  uint8_t *sheet, size_t sheet_length,
                  size_t *length);
 
-/* Marks a sheet: verdict 1 accepted, 0 declined. form: 4 + 192 * G bytes; relations: 16 * G numbers; tally: three counts, accepted,
- * declined and turned away; with fewer, 19 comes before all else. */
+/* Marks a sheet: verdict 1 accepted, 0 declined, and the mask. It ends as form making and evaluation leave form and relations.
+ * form: EWF_FORM_ASKED(G) bytes; relations: EWF_FORM_RULES(G) numbers, EWF_MOST_RULES at most; tally: EWF_TALLY_COUNTS counts, each of
+ * which goes up by one with its answer: accepted, declined, turned away (1 to 16).
+ * Refused by 19 (a tally that is too short, before all else), 25, 1 to 16 (the sheet), 17, 19 (relations). */
 uint8_t ewf_mark(const uint8_t *sheet, size_t sheet_length,
                  uint8_t *form, size_t form_length,
                  uint64_t *relations, size_t relations_length,

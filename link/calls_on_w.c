@@ -1,0 +1,109 @@
+/* The calls on the sheet W of document 01: its mark, its form, and from the form the mask, the size, each label and the tree. */
+#include <inttypes.h>
+#include <stdio.h>
+#include "ewerflint.h"
+
+static const uint8_t W[58] = {
+    0x0C, 0x00, 0x03, 0x00, 0x0F, 0x00, 0x11, 0x00, 0x20, 0x00, 0x1A, 0x00,
+    0x00, 0x02, 0x01,
+    0x01, 0x03, 0x02, 0x02, 0x80,
+    0x02, 0x04, 0x01, 0x40, 0x81, 0x80,
+    0x00, 0x04, 0x41, 0x00, 0x40, 0x00,
+    0x02, 0x01,
+    0x00, 0x00, 0xFF, 0xFF, 0xFF, 0xFF,
+    0x02, 0x01, 0x00, 0xFF, 0xFF, 0xFF,
+    0x02, 0x00, 0x01, 0xFF, 0xFF, 0xFF,
+    0x01, 0x00, 0x00, 0x00, 0xFF, 0xFF,
+};
+
+/* The right-side nodes of W's three rules, where W's alphabet and automaton lie, and room for its tree. */
+enum { NODES = 3 + 4 + 4, ALPHABET = 12, TERMINALS = 3, AUTOMATON = 32, ROOM = 16 };
+
+static const uint8_t *const alphabet = W + ALPHABET;
+static const uint8_t *const automaton = W + AUTOMATON;
+
+static int refused(const char *call, uint8_t refusal)
+{
+    if (refusal != EWF_NOT_REFUSED) {
+        printf("%s: refused %u\n", call, (unsigned)refusal);
+    }
+    return refusal != EWF_NOT_REFUSED;
+}
+
+static int mark_sheet(void)
+{
+    uint8_t form[EWF_FORM_ASKED(NODES)];
+    uint64_t relations[EWF_FORM_RULES(NODES)];
+    uint32_t tally[EWF_TALLY_COUNTS] = {0, 0, 0};
+    uint8_t verdict = 0;
+    uint8_t mask = 0;
+
+    if (refused("mark", ewf_mark(W, sizeof W, form, sizeof form, relations, EWF_FORM_RULES(NODES), tally, EWF_TALLY_COUNTS, &verdict, &mask))) {
+        return 1;
+    }
+    printf("mark: %s %u, tally %" PRIu32 " %" PRIu32 " %" PRIu32 "\n", verdict == 1 ? "accepted" : "declined", (unsigned)mask, tally[0], tally[1], tally[2]);
+    return 0;
+}
+
+static int evaluate(const uint8_t *form, size_t length)
+{
+    uint64_t relations[EWF_FORM_RULES(NODES)];
+    uint8_t mask = 0;
+
+    if (refused("evaluate", ewf_evaluate(alphabet, TERMINALS, automaton, sizeof W - AUTOMATON, form, length, relations, EWF_RELATIONS(EWF_RULES(form)), &mask))) {
+        return 1;
+    }
+    printf("mask: %u\n", (unsigned)mask);
+    return 0;
+}
+
+static int print_labels(const uint8_t *form, size_t length)
+{
+    uint64_t counts[EWF_COUNTS(EWF_FORM_RULES(NODES))];
+    size_t asked = EWF_COUNTS(EWF_RULES(form));
+    uint64_t size = 0;
+
+    if (refused("size", ewf_size(alphabet, TERMINALS, form, length, counts, asked, &size))) {
+        return 1;
+    }
+    printf("size: %" PRIu64 "\nlabels:", size);
+    for (uint64_t position = 0; position < size; position++) {
+        uint8_t terminal = 0;
+
+        if (refused("label", ewf_label(alphabet, TERMINALS, form, length, position, counts, asked, &terminal))) {
+            return 1;
+        }
+        printf(" %u", (unsigned)terminal);
+    }
+    printf("\n");
+    return 0;
+}
+
+static int unfold(const uint8_t *form, size_t length)
+{
+    uint64_t counts[EWF_COUNTS(EWF_FORM_RULES(NODES))];
+    uint8_t tree[ROOM];
+    size_t nodes = 0;
+
+    if (refused("unfold", ewf_unfold(alphabet, TERMINALS, form, length, counts, EWF_COUNTS(EWF_RULES(form)), tree, sizeof tree, &nodes))) {
+        return 1;
+    }
+    printf("tree:");
+    for (size_t i = 0; i < nodes; i++) {
+        printf(" %u", (unsigned)tree[i]);
+    }
+    printf("\n");
+    return 0;
+}
+
+int main(void)
+{
+    uint8_t form[EWF_FORM_ASKED(NODES)];
+    size_t length = 0;
+
+    if (mark_sheet() || refused("make form", ewf_make_form(W, sizeof W, form, sizeof form, &length))) {
+        return 1;
+    }
+    printf("form: %zu rules, %zu bytes\n", EWF_RULES(form), length);
+    return evaluate(form, length) || print_labels(form, length) || unfold(form, length);
+}
