@@ -1,3 +1,2 @@
-// Writing a sheet, and wrapping a plain tree into one.
+// Wrapping a plain tree into a sheet.
 pub mod wrap;
-pub mod write;

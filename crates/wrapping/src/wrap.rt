@@ -1,18 +1,18 @@
 // Wrapping a plain tree into a sheet of one rule.
-use crate::write::write_sheet;
 use checks::alphabet::check_alphabet;
 use checks::automaton::check_automaton;
 use checks::bytes::copy_at;
 use checks::limits::CONTENTS;
 use checks::limits::MOST_NODES;
 use checks::tree::check_tree;
+use sheet_bytes::write::write_sheet;
 ghost use mathlib.Core.Path.{_≡_};
 ghost use mathlib.Core.List.{_∷_};
 ghost use Prim.Native.Nat.{_+_, _≤_};
 ghost use lib.ListN.{length, take};
 ghost use Rattle.terms.specs.Sheet.{wrapped};
 ghost use Rattle.terms.specs.Calls.{lentAfter, wrapRefusal};
-ghost use Rattle.wrapping.specs.Private.Put.{Put};
+ghost use Rattle.sheet_bytes.specs.Put.{Put};
 ghost use Rattle.wrapping.specs.Wrap.{wrapping};
 
 // How many bytes stand before the nodes of a rule: its rank, and the number of its nodes.

@@ -2,7 +2,7 @@
 use native.Mathlib.Omega.{arith}
 use borrow.Author.Needs.{needs}
 use denote.Ref.{now}
-use Rattle.wrapping.proofs.write.Pieces.{rule-put}
+use Rattle.wrapping.proofs.OneRule.{rule-put}
 use Rattle.wrapping.proofs.wrap.one_rule.Statement.{statement}
 use Rattle.wrapping.proofs.wrap.one_rule.Tie as tie
 

@@ -1,13 +1,13 @@
 -- Pieces written one behind the other.
 use mathlib.Core.Path.{_≡_, refl, sym, ap, _∙_}
-use mathlib.Core.List.{List, [], _∷_, _++_, append-assoc}
-use Prim.Native.Nat.{ℕ, _+_, _≤_, _<_}
+use mathlib.Core.List.{List, [], _++_, append-assoc}
+use Prim.Native.Nat.{ℕ, _+_, _<_}
 use native.Mathlib.Omega.{arith}
-use lib.ListN.{length, take, drop, set, length-append}
+use lib.ListN.{length, take, drop, length-append}
 use Rattle.terms.specs.Sheet.{contentsOf, sheetOf}
 use Rattle.terms.proofs.Sheet.Write.{length-sheet}
-use Rattle.wrapping.specs.Private.Put.{Put}
-use lib.Seq.{take-append-seam, take-append-add, drop-append-add, drop-drop}
+use Rattle.sheet_bytes.specs.Put.{Put}
+use lib.Seq.{take-append-seam, drop-append-add, drop-drop}
 
 -- a piece behind what is written: to is what is written, and then what was there
 pub piece : (done from to₀ to to′ : List ℕ) (at : ℕ) → at ≡ length done → to ≡ done ++ drop at to₀ → to′ ≡ take at to ++ (from ++ drop (at + length from) to)
@@ -44,12 +44,3 @@ sheet-put alphabet rules automaton s contents s₁ s₂ s₃ s₄ fits e₀ e₁
     let n : 12 + length alphabet + length rules + length automaton ≡ length (sheetOf alphabet rules automaton) = omega arith in
     let p = pieces contents alphabet rules automaton s s₁ s₂ s₃ s₄ 12 (12 + length alphabet) (12 + length alphabet + length rules) (sym (ap length e₀)) refl refl e₁ e₂ e₃ e₄ in
     record { answer = n; slice = p ∙ rw (n, e₀) }
-
--- a rank 0 and a node count, and the nodes behind them
-pub rule-put : (rules tree s : List ℕ) (n : ℕ) → 2 ≤ length rules → s ≡ take 2 (set (set rules 0 0) 1 n) ++ (tree ++ drop (2 + length tree) (set (set rules 0 0) 1 n))
-    → take (2 + length tree) s ≡ 0 ∷ n ∷ tree
-rule-put [] tree s n h e = absurd (omega arith)
-rule-put (a ∷ []) tree s n h e = absurd (omega arith)
-rule-put (a ∷ b ∷ rules) tree s n h e =
-    let after = drop (2 + length tree) (0 ∷ n ∷ rules) in
-    ap (take (2 + length tree)) e ∙ take-append-add (0 ∷ n ∷ []) (tree ++ after) (length tree) ∙ ap (λ (l : List ℕ). 0 ∷ n ∷ l) (take-append-seam tree after)

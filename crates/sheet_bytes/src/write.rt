@@ -3,7 +3,7 @@ ghost use mathlib.Core.Path.{_≡_};
 ghost use Prim.Native.Nat.{_+_, _<_, _≤_};
 ghost use lib.ListN.{length};
 ghost use Rattle.terms.specs.Sheet.{contentsOf, sheetOf};
-ghost use Rattle.wrapping.specs.Private.Put.{Put};
+ghost use Rattle.sheet_bytes.specs.Put.{Put};
 use checks::bytes::copy_at;
 use checks::limits::CONTENTS;
 

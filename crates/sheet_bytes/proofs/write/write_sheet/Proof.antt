@@ -1,9 +1,9 @@
--- `wrapping::write::write_sheet` meets its contract: the contents and the three bodies are four pieces, one behind the other.
+-- `sheet_bytes::write::write_sheet` meets its contract: the contents and the three bodies are four pieces, one behind the other.
 use native.Mathlib.Omega.{arith}
 use borrow.Author.Needs.{needs}
-use Rattle.wrapping.proofs.write.write_sheet.Statement.{statement}
-use Rattle.wrapping.proofs.write.write_sheet.Tie as tie
-use Rattle.wrapping.proofs.write.Pieces.{sheet-put}
+use Rattle.sheet_bytes.proofs.write.write_sheet.Statement.{statement}
+use Rattle.sheet_bytes.proofs.write.write_sheet.Tie as tie
+use Rattle.sheet_bytes.proofs.write.Pieces.{sheet-put}
 
 add-rules-at : tie.Need-add-rules-at
 add-rules-at c = search needs

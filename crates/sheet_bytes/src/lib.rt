@@ -1,0 +1,2 @@
+// The bytes of a sheet, as they are written.
+pub mod write;
