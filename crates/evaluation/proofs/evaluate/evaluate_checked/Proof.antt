@@ -34,7 +34,7 @@ returns : tie.Need-returns
 returns c =
     let start = c .before in
     let written = start .before .before .before .before in (
-      c .states-of .ensures ∙ start-mask _ _ _ (checked (written .before) .valid) _ _ _ (written .write-relations .ensures) (start .start-of .ensures),
+      c .states-of .ensures ∙ start-mask (checked (written .before)) _ _ (written .write-relations .ensures) _ (start .start-of .ensures),
       written .write-relations .ensures,
     )
 

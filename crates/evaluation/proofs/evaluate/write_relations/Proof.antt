@@ -94,7 +94,7 @@ loop-again : tie.Need-loop-again Inv-loop μ-loop
 loop-again c =
     let l = turn (c .before) in
     let (rule, _, place) = within c in
-    (entry-next _ _ _ (checked (entry (l .before)) .valid) _ rule _ _ _ place (l .loop .inv .0) (c .relation-of .ensures), omega arith, simp length-set (l .loop .inv .2))
+    (entry-next (checked (entry (l .before))) _ rule _ _ _ place (l .loop .inv .0) (c .relation-of .ensures), omega arith, simp length-set (l .loop .inv .2))
 
 same-length : tie.Need-same-length Inv-loop μ-loop
 same-length c = omega arith
@@ -102,7 +102,7 @@ same-length c = omega arith
 returns : tie.Need-returns Inv-loop μ-loop
 returns c =
     let l = c .before in
-    entries-whole _ _ _ (checked (entry (l .before)) .valid) _ (omega (arith, l .before .rule-count .ensures)) _ _ (l .loop .inv .0)
+    entries-whole (checked (entry (l .before))) _ (omega (arith, l .before .rule-count .ensures)) _ _ (l .loop .inv .0)
 
 pub write-relations-spec : {M : Type 1} → statement M
 write-relations-spec =
