@@ -2,7 +2,6 @@
 use mathlib.Core.Path.{_≡_, sym, ap, _∙_}
 use mathlib.Core.List.{List}
 use Prim.Native.Nat.{ℕ, _*_, _≤_}
-use native.Mathlib.Omega.{arith}
 use borrow.Author.Tests.{le-ltb}
 use lib.Dec.{T, ltb}
 use lib.ListN.{length}
@@ -12,7 +11,7 @@ use Rattle.terms.specs.Grammar.{terminalRank}
 use Rattle.terms.specs.Automaton.{mask}
 use Rattle.terms.specs.Sheet.{alphabetOf, automatonOf, rulesOf, transitionsOf, sheetTree}
 use Rattle.terms.specs.Check.{isOne, isTree, treeRefusal, sheetRefusal}
-use Rattle.terms.specs.FormBytes.{ruleCount, ruleOffset, formTree}
+use Rattle.terms.specs.FormBytes.{ruleCount, ruleOffset}
 use Rattle.terms.specs.Count.{sizeOf}
 use Rattle.terms.specs.Calls.{rulesAsked, makingRefusal, openingRefusal, evaluationRefusal, formMask, sizeRefusal, unfoldingRefusal, mostWalked, walkRefusal, walkMask}
 use Rattle.terms.specs.Demand.{FormOfSheet, MaskOfRuns, Demand3}
