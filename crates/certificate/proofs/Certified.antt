@@ -1,15 +1,15 @@
 -- Demand 3 follows from what the four calls answer and leave.
 use mathlib.Core.Path.{_≡_, refl, ap, subst, _∙_}
 use mathlib.Core.List.{List}
-use Prim.Native.Nat.{ℕ, _+_, _*_, _≤_}
+use Prim.Native.Nat.{ℕ, _*_, _≤_}
 use native.Mathlib.Omega.{arith}
 use lib.ListN.{length, take}
 use Rattle.terms.specs.Tree.{Tree, preorder}
-use Rattle.terms.specs.Sheet.{alphabetOf, automatonOf, nodesOf, sheetTree}
+use Rattle.terms.specs.Sheet.{alphabetOf, automatonOf, sheetTree}
 use Rattle.terms.specs.Check.{sheetRefusal}
-use Rattle.terms.specs.FormBytes.{ruleCount}
+use Rattle.terms.specs.FormBytes.{ruleCount, ruleOffset}
 use Rattle.terms.specs.Count.{sizeOf}
-use Rattle.terms.specs.Calls.{makingRefusal, formMask, mostWalked}
+use Rattle.terms.specs.Calls.{rulesAsked, makingRefusal, formMask, mostWalked}
 use Rattle.terms.specs.Demand.{FormOfSheet, Demand3}
 use Rattle.terms.proofs.Demand.{making-passes, form-meets}
 use Rattle.making.specs.Making.{refusalOf, Leaves}
@@ -24,7 +24,7 @@ use Rattle.certificate.specs.Certify.{Slices, Walked, Ran, Follows, Call
 use Rattle.certificate.specs.declared.certify.Answers.{Answers}
 use Rattle.unfolding.proofs.Unfolded.{unfolds, tree-first}
 
-module _ (sheet : List ℕ) (answers : Answers) (form : List ℕ) (lent : Slices) (form′ : List ℕ) (left : Slices) (passes : sheetRefusal sheet ≡ 0) (room : 4 + 192 * nodesOf sheet ≤ length form) where
+module _ (sheet : List ℕ) (answers : Answers) (form : List ℕ) (lent : Slices) (form′ : List ℕ) (left : Slices) (passes : sheetRefusal sheet ≡ 0) (room : ruleOffset (rulesAsked sheet) ≤ length form) where
   abbrev alphabet : List ℕ
   alphabet = alphabetOf sheet
 
@@ -67,7 +67,7 @@ module _ (sheet : List ℕ) (answers : Answers) (form : List ℕ) (lent : Slices
 
   by-answer : (m : Making) → answers .made ≡ m → refusalOf m ≡ makingRefusal sheet (length form) → Leaves sheet m form′ form
       → Follows sheet m form′ answers lent left → Certificate sheet answers lent form′ left
-  by-answer (making.Refused n) e r l f = absurd (omega (arith, r, l .0, making-passes sheet passes (length form) (omega arith)))
+  by-answer (making.Refused n) e r l f = absurd (omega (arith, r, l .0, making-passes sheet passes (length form) room))
   by-answer (making.Written n) e r l f = certificate n e (form-of sheet l) f
 
   pub calls-certify : CallsMade sheet answers form lent form′ left → Certificate sheet answers lent form′ left

@@ -12,7 +12,7 @@ use Rattle.terms.specs.Sheet.{rulesBody}
 use Rattle.terms.proofs.Sheet.Passed.{alphabet-passed}
 use Rattle.terms.proofs.Form.Written.{only-bytes}
 use Rattle.skeletons.specs.Form.{madeForm}
-use Rattle.skeletons.proofs.Result.{scanned-form, form-linear}
+use Rattle.skeletons.proofs.Result.{scanned-form}
 use Rattle.skeletons.proofs.Bytes.{made-from, made-bytes}
 use Rattle.cells.specs.Bytes.{Holds, HeadWritten}
 use Rattle.right_sides.specs.Rules.{Grammar, modelOf, RulesMade}
@@ -29,7 +29,7 @@ module _ {form alphabet body : List ℕ} {count : ℕ} (g : Grammar form alphabe
 
   -- the rules fit the slice
   fits : ruleOffset (length rules) ≤ length form
-  fits = omega (arith, form-linear alphabet grammar (g .proper) (scanned-form alphabet grammar (g .proper) .2), g .room)
+  fits = omega (arith, scanned-form alphabet grammar (g .proper) .2 .few, g .room)
 
   pub head-fits : 4 ≤ length form₁
   head-fits = omega (arith, fits, m .long)

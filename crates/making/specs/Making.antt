@@ -1,12 +1,13 @@
 -- What form making answers, and what holds of the form that it writes (document 01, "One-hole form").
 use mathlib.Core.Path.{_≡_}
 use mathlib.Core.List.{List}
-use Prim.Native.Nat.{ℕ, _*_, _<_, _≤_}
+use Prim.Native.Nat.{ℕ, _<_, _≤_}
 use lib.ListN.{length, take, drop}
-use Rattle.terms.specs.Grammar.{Rule, nodeCount, derived}
+use Rattle.terms.specs.Grammar.{Rule, derived}
 use Rattle.terms.specs.Form.{formBound}
 use Rattle.terms.specs.FormBytes.{ruleCount, formTree, formRefusal}
 use Rattle.terms.specs.Sheet.{alphabetOf, rulesOf}
+use Rattle.terms.specs.Calls.{rulesFor}
 use Rattle.skeletons.specs.Form.{madeForm}
 use Rattle.making.specs.declared.Making.{Making}
 use Rattle.making.specs.declared.Making.the-variants.{Refused, Written}
@@ -18,7 +19,7 @@ pub record FormWritten (alphabet : List ℕ) (grammar : List Rule) (n : ℕ) (ex
   pub accepted : formRefusal alphabet (take n exit) ≡ 0
   pub tree : formTree alphabet (take n exit) ≡ derived alphabet grammar
   pub few : ruleCount (take n exit) ≤ formBound grammar
-  pub linear : ruleCount (take n exit) ≤ 16 * nodeCount grammar
+  pub linear : ruleCount (take n exit) ≤ rulesFor grammar
   pub within : n ≤ length entry
   pub kept : drop n exit ≡ drop n entry
 

@@ -16,9 +16,6 @@ ghost use Rattle.right_sides.specs.Rules.{Grammar};
 ghost use Rattle.making.specs.Making.{FormWritten, refusalOf, Leaves};
 ghost use Rattle.making.specs.Private.Read.{ReadWithRoom};
 
-// How many rules of a form a node of a sheet may take.
-pub const RULES_FOR_NODE: usize = 16;
-
 // What making a form answers: the refusal, or the length of the form.
 pub enum Making {
     Refused(u8),
@@ -61,7 +58,7 @@ pub fn make_form(sheet: &[u8], form: &mut [u8]) -> Making
     match read_sheet(sheet) {
         Reading::Refused(n) => Making::Refused(n),
         Reading::Sheet(layout) => {
-            if form.len() < HEAD + RULE * (RULES_FOR_NODE * layout.nodes) {
+            if form.len() < HEAD + RULE * layout.asked {
                 return Making::Refused(17);
             }
             Making::Written(make_read(sheet, layout, form))

@@ -2,7 +2,7 @@
 use mathlib.Core.Path.{_≡_, refl, sym, ap, _∙_}
 use mathlib.Core.Bool.{false}
 use mathlib.Core.List.{List, []}
-use Prim.Native.Nat.{ℕ, zero, suc, _*_, _-_, _≤_, _<_}
+use Prim.Native.Nat.{ℕ, zero, suc, _-_, _≤_, _<_}
 use native.Mathlib.Omega.{arith}
 use borrow.Author.Tests.{lt-ltb, le-ltb}
 use lib.ListN.{length, take, drop}
@@ -56,16 +56,16 @@ module _ (s : List ℕ) (room numbers : ℕ) where
   not-made e h = rw none-full (is-first _ e h)
 
 module _ {s : List ℕ} {l : Layout} (read : SheetRead s l) (room numbers : ℕ) where
-  pub form-short : room < ruleOffset (16 * l .nodes) → 17 ≡ markingRefusal [] s room numbers
+  pub form-short : room < ruleOffset (l .asked) → 17 ≡ markingRefusal [] s room numbers
   form-short h = not-made s room numbers (too-short read room h) (λ e. omega arith)
 
-  pub numbers-short : ruleOffset (16 * l .nodes) ≤ room → numbers < 16 * l .nodes → 19 ≡ markingRefusal [] s room numbers
+  pub numbers-short : ruleOffset (l .asked) ≤ room → numbers < l .asked → 19 ≡ markingRefusal [] s room numbers
   unfolding markingRefusal
-  numbers-short h k = rw (none-full, sym (long-enough read room h), lt-ltb numbers (rulesAsked s) (rw (read .nodes) at k))
+  numbers-short h k = rw (none-full, sym (long-enough read room h), lt-ltb numbers (rulesAsked s) (rw (read .asked) at k))
 
-  pub none-short : ruleOffset (16 * l .nodes) ≤ room → 16 * l .nodes ≤ numbers → 0 ≡ markingRefusal [] s room numbers
+  pub none-short : ruleOffset (l .asked) ≤ room → l .asked ≤ numbers → 0 ≡ markingRefusal [] s room numbers
   unfolding markingRefusal
-  none-short h k = rw (none-full, sym (long-enough read room h), le-ltb numbers (rulesAsked s) (rw (read .nodes) at k))
+  none-short h k = rw (none-full, sym (long-enough read room h), le-ltb numbers (rulesAsked s) (rw (read .asked) at k))
 
 -- A sheet that was read.
 
@@ -90,8 +90,8 @@ module _ {s : List ℕ} {l : Layout} (read : SheetRead s l) where
     demand = form-meets s (read .passed) (take n exit) formed
 
     module _ {alphabet automaton : List ℕ} (a : alphabet ≡ alphabetOf s) (b : automaton ≡ automatonOf s) where
-      pub evaluable : (numbers : ℕ) → 16 * l .nodes ≤ numbers → evaluationRefusal alphabet automaton (take n exit) numbers ≡ 0
-      evaluable numbers h = rw (a, b) (demand .evaluated numbers (omega (arith, formed .few, read .nodes)))
+      pub evaluable : (numbers : ℕ) → l .asked ≤ numbers → evaluationRefusal alphabet automaton (take n exit) numbers ≡ 0
+      evaluable numbers h = rw (a, b) (demand .evaluated numbers (omega (arith, formed .few, read .asked)))
 
       -- the answer
       pub verdict-is : {r : Mark} {m : ℕ} → m ≡ formMask alphabet automaton (take n exit) → r ≡ verdictOn m (finals automaton)

@@ -6,7 +6,8 @@ use native.Mathlib.Omega.{arith}
 use borrow.Author.Count.{below-more}
 use lib.ListN.{length, getD, drop, set, replicate, length-drop, length-set}
 use lib.Seq.{drop-cons, getD-set-same, getD-set-other, length-take-le}
-use Rattle.terms.specs.Grammar.{Rule, ruleAt, ruleRank, rankIn}
+use Rattle.terms.specs.Grammar.{Rule, ruleAt, ruleRank, rankIn, sumRules}
+use Rattle.terms.specs.Form.{formBound}
 use Rattle.terms.specs.Sheet.{rulesBody}
 use Rattle.terms.specs.Check.{mostRules}
 use Rattle.terms.specs.FormBytes.{ruleOffset}
@@ -15,12 +16,12 @@ use Rattle.terms.proofs.Form.Bytes.{rank-le}
 use Rattle.skeletons.specs.Skeleton.{param, shut, nth}
 use Rattle.skeletons.specs.Make.{Form, skeletonOf}
 use Rattle.skeletons.specs.Scan.{scan, scanned}
-use Rattle.skeletons.proofs.Result.{scanned-form}
+use Rattle.skeletons.proofs.Result.{scanned-form, bound-linear}
 use Rattle.grammars.proofs.Body.{nodesAt, behind, ruleThere, opened, Passed, none-passed, rule-passed}
 use Rattle.cells.specs.Bytes.{Holds}
 use Rattle.cells.specs.Cells.{mostCells, spaceLength, field, Stands}
 use Rattle.cells.specs.State.{Room, Grown, Stood}
-use Rattle.right_sides.specs.Side.{Known, RightSide, SideMade}
+use Rattle.right_sides.specs.Side.{Known, sideBound, RightSide, SideMade}
 use Rattle.right_sides.specs.Rules.{Parameters, Grammar, modelOf, RulesMade}
 use Rattle.cells.specs.declared.state.Free.{Free}
 use Rattle.cells.specs.declared.state.Made.{Made}
@@ -46,6 +47,10 @@ module _ {form₀ alphabet body : List ℕ} {count : ℕ} (g : Grammar form₀ a
   abbrev made : ℕ → Form
   made i = scanned alphabet rules i
 
+  -- how many rules a right side may add
+  abbrev bound : Rule → ℕ
+  bound r = sideBound rules (r .nodes)
+
   -- the first i rules are made, and the next one's bytes start at a place
   pub record Making (at i : ℕ) (form space : List ℕ) (free : Free) (ranks roots : List ℕ) : Type 0 where
     pub nodes : ℕ
@@ -55,7 +60,7 @@ module _ {form₀ alphabet body : List ℕ} {count : ℕ} (g : Grammar form₀ a
     pub known : Known space free ranks roots rules i (skeletonOf (made i))
     pub held : Holds form (made i .rules)
     pub counted : free .rule .0 ≡ length (made i .rules)
-    pub few-rules : free .rule .0 ≤ 16 * nodes
+    pub few-rules : free .rule .0 + sumRules bound (drop i rules) ≤ formBound rules
     pub few-cells : free .cell ≤ 4 + 4 * nodes
     pub all : length space ≡ spaceLength
     pub long : length form ≡ length form₀
@@ -117,12 +122,17 @@ module _ {form₀ alphabet body : List ℕ} {count : ℕ} (g : Grammar form₀ a
     nodes-long : length (ruleThere body at .nodes) ≡ nodesAt body at
     nodes-long = length-take-le _ _ (rw length-drop (omega (arith, whole)))
 
-    side-room : {ys : List ℕ} → ys ≡ ruleThere body at .nodes → Room (16 * length ys) (4 * length ys) form space free
+    -- what the rules from here on may add
+    bound-split : sumRules bound (drop i rules) ≡ bound (ruleThere body at) + sumRules bound (drop (suc i) rules)
+    bound-split = ap (sumRules bound) (drop-cons rules i (record { rank = 0; nodes = [] }) inside ∙ ap (λ (r : Rule). r ∷ drop (suc i) rules) rule-is)
+
+    side-room : {ys : List ℕ} → ys ≡ ruleThere body at .nodes → Room (sideBound rules ys) (4 * length ys) form space free
     side-room {ys} e =
         let l : length ys ≡ nodesAt body at = ap length e ∙ nodes-long in
+        let b : sideBound rules ys ≡ bound (ruleThere body at) = ap (sideBound rules) e in
         record {
-          fits = omega (arith, s .few-rules, s .long, later .nodes, g .room);
-          numbers = omega (arith, s .few-rules, later .nodes, g .few);
+          fits = omega (arith, s .few-rules, s .long, bound-split, g .room);
+          numbers = omega (arith, s .few-rules, bound-split, bound-linear alphabet rules (g .proper), g .few);
           all = s .all;
           left = omega (arith, s .few-cells, later .nodes, g .few);
         }
@@ -146,7 +156,8 @@ module _ {form₀ alphabet body : List ℕ} {count : ℕ} (g : Grammar form₀ a
 
     -- the next rule
     module _ {ys : List ℕ} (e : ys ≡ ruleThere body at .nodes) {form′ space′ : List ℕ} {r : Made} (d : SideMade form space free alphabet ranks roots ys form′ space′ r) where
-      grown : Grown (16 * length ys) (4 * length ys) form space free form′ space′ (r .free)
+      grown : Grown (sideBound rules ys) (4 * length ys) form space free form′ space′ (r .free)
+      unfolding side
       grown = d .grown (side e)
 
       same-nodes : ys ≡ ruleAt rules i .nodes
@@ -200,7 +211,7 @@ module _ {form₀ alphabet body : List ℕ} {count : ℕ} (g : Grammar form₀ a
             known = known-next;
             held = stood .held;
             counted = stood .counted;
-            few-rules = omega (arith, grown .few-rules, s .few-rules);
+            few-rules = omega (arith, grown .few-rules, s .few-rules, bound-split, ap (sideBound rules) e);
             few-cells = omega (arith, grown .few-cells, s .few-cells);
             all = grown .all ∙ s .all;
             long = grown .long ∙ s .long;

@@ -6,7 +6,7 @@ use mathlib.Core.List.{List}
 use Prim.Native.Nat.{ℕ, _*_, _≤_}
 use Rattle.terms.specs.Tree.{preorder}
 use Rattle.terms.specs.Automaton.{Run, has}
-use Rattle.terms.specs.Sheet.{alphabetOf, automatonOf, nodesOf, transitionsOf, sheetTree}
+use Rattle.terms.specs.Sheet.{alphabetOf, automatonOf, transitionsOf, sheetTree}
 use Rattle.terms.specs.FormBytes.{ruleCount, ruleOffset, formTree, formRefusal}
 use Rattle.terms.specs.Count.{sizeOf}
 use Rattle.terms.specs.Calls.{rulesAsked, makingRefusal, evaluationRefusal, formMask, unfoldingRefusal, mostWalked, walkRefusal, walkMask}
@@ -15,7 +15,7 @@ use Rattle.terms.specs.Calls.{rulesAsked, makingRefusal, evaluationRefus
 pub record FormOfSheet (sheet form : List ℕ) : Type 0 where
   pub valid : formRefusal (alphabetOf sheet) form ≡ 0
   pub tree : formTree (alphabetOf sheet) form ≡ sheetTree sheet
-  pub few : ruleCount form ≤ 16 * nodesOf sheet
+  pub few : ruleCount form ≤ rulesAsked sheet
 
 -- the mask has bit q exactly where a run of the sheet's automaton on the sheet's tree ends in q at the root (01 Derived tree and run)
 abbrev pub MaskOfRuns : List ℕ → ℕ → Type 0
