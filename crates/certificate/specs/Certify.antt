@@ -8,9 +8,9 @@ use Rattle.terms.specs.Sheet.{alphabetOf, automatonOf, sheetTree}
 use Rattle.terms.specs.Check.{sheetRefusal}
 use Rattle.terms.specs.FormBytes.{ruleCount, ruleOffset}
 use Rattle.terms.specs.Count.{sizeOf}
-use Rattle.terms.specs.Calls.{lentAfter, rulesAsked, makingRefusal, evaluationRefusal, relationsOf, mostWalked, walkRefusal, walkMasks}
+use Rattle.terms.specs.Calls.{lentAfter, rulesAsked, evaluationRefusal, relationsOf, mostWalked, walkRefusal, walkMasks}
 use Rattle.terms.specs.Demand.{FormOfSheet, MaskOfRuns}
-use Rattle.making.specs.Making.{refusalOf, Leaves}
+use Rattle.making.specs.Making.{Makes}
 use Rattle.making.specs.declared.Making.{Making}
 use Rattle.making.specs.declared.Making.the-variants as making
 use Rattle.evaluation.specs.Evaluation.{evaluation}
@@ -68,8 +68,7 @@ Follows sheet (making.Written n) form answers lent left = Ran (alphabetOf sheet)
 
 -- the four calls (01 Unfolding)
 pub record CallsMade (sheet : List ℕ) (answers : Answers) (form : List ℕ) (lent : Slices) (form′ : List ℕ) (left : Slices) : Type 0 where
-  pub refused : refusalOf (answers .made) ≡ makingRefusal sheet (length form)
-  pub formed : Leaves sheet (answers .made) form′ form
+  pub makes : Makes sheet (answers .made) form′ form
   pub followed : Follows sheet (answers .made) form′ answers lent left
 
 -- What is claimed of them: demand 3.

@@ -9,7 +9,7 @@ use lib.Seq.{length-take-le}
 use Rattle.terms.specs.FormBytes.{ruleOffset, mostFormRules}
 use Rattle.terms.specs.Sheet.{bodyOffset, body, alphabetOf, rulesBody, rulesOf}
 use Rattle.terms.specs.Check.{sheetRefusal}
-use Rattle.terms.specs.Calls.{rulesAsked, makingRefusal}
+use Rattle.terms.specs.Calls.{lentAfter, rulesAsked, makingRefusal}
 use Rattle.terms.proofs.Sheet.Bodies.{Joined, joined}
 use Rattle.terms.proofs.Sheet.Grammar.{rules-passed}
 use Rattle.terms.proofs.Sheet.Passed.{SheetPassed, sheet-passed}
@@ -17,17 +17,20 @@ use Rattle.skeletons.proofs.Result.{bound-linear}
 use Rattle.sheets.proofs.Asked.{asked-small}
 use Rattle.sheets.specs.Sheet.{sheetAfter, sheetReading}
 use Rattle.sheets.specs.declared.sheet.Layout.{Layout}
-use Rattle.sheets.specs.declared.sheet.Reading.the-variants.{Refused, Sheet}
+use Rattle.sheets.specs.declared.sheet.Reading.the-variants as reading
 use Rattle.right_sides.specs.Rules.{Grammar}
-use Rattle.making.specs.Making.{FormWritten}
+use Rattle.making.specs.Making.{formOf, makingAfter, FormMade}
+use Rattle.making.specs.Private.Read.{FormWritten}
+use Rattle.making.specs.declared.Making.{Making}
+use Rattle.making.specs.declared.Making.the-variants.{Refused, Written}
 
 module _ (s : List ℕ) (room : ℕ) where
   -- a sheet that is refused
-  pub sheet-refused : (n : ℕ) → sheetReading s ≡ Refused n → (n ≡ makingRefusal s room) × (0 < n)
+  pub sheet-refused : (n : ℕ) → sheetReading s ≡ reading.Refused n → (n ≡ makingRefusal s room) × (0 < n)
   unfolding makingRefusal
   sheet-refused n e = go (sheetRefusal s) refl e
     where
-      go : (m : ℕ) → sheetRefusal s ≡ m → sheetAfter m s ≡ Refused n → (n ≡ makingRefusal s room) × (0 < n)
+      go : (m : ℕ) → sheetRefusal s ≡ m → sheetAfter m s ≡ reading.Refused n → (n ≡ makingRefusal s room) × (0 < n)
       go zero t e = absurd (let z : _≡_ {A = ℕ} 0 1 = cc in omega arith)
       go (suc m) t e = let z : n ≡ suc m = cc in (rw t z, omega arith)
 
@@ -40,10 +43,10 @@ pub record SheetRead (s : List ℕ) (l : Layout) : Type 0 where
   pub small : l .asked ≤ mostFormRules
   pub automaton : l .automaton ≡ bodyOffset s 2
 
-pub sheet-read : (s : List ℕ) (l : Layout) → sheetReading s ≡ Sheet l → SheetRead s l
+pub sheet-read : (s : List ℕ) (l : Layout) → sheetReading s ≡ reading.Sheet l → SheetRead s l
 sheet-read s l e = go (sheetRefusal s) refl e
   where
-    go : (m : ℕ) → sheetRefusal s ≡ m → sheetAfter m s ≡ Sheet l → SheetRead s l
+    go : (m : ℕ) → sheetRefusal s ≡ m → sheetAfter m s ≡ reading.Sheet l → SheetRead s l
     go zero t e =
         let k : l .asked ≡ rulesAsked s = cc in
         record { passed = t; terminals = cc; rules = cc; asked = k; small = omega (arith, asked-small s t); automaton = cc }
@@ -101,3 +104,17 @@ module _ {s : List ℕ} {l : Layout} (r : SheetRead s l) where
   pub sheet-made : {xs ys : List ℕ} {n : ℕ} {exit entry : List ℕ} → xs ≡ alphabetOf s → ys ≡ body s 1 → FormWritten xs (rulesBody ys .rules) n exit entry → FormWritten (alphabetOf s) (rulesOf s) n exit entry
   unfolding rulesOf
   sheet-made a b w = rw (a, b) at w
+
+-- What form making answers and leaves, by its refusal.
+
+module _ (s entry : List ℕ) where
+  abbrev Answered : ℕ → Making → List ℕ → Type 0
+  Answered refusal r exit =
+      (r ≡ makingAfter refusal (length (formOf s))) × ((exit ≡ lentAfter refusal (formOf s) entry) × (refusal ≡ 0 → FormMade s (length entry)))
+
+  pub none-made : {n : ℕ} (refusal : ℕ) → n ≡ refusal → 0 < n → Answered refusal (Refused n) entry
+  none-made zero e h = absurd (omega arith)
+  none-made (suc k) e h = (ap Refused e, (refl, λ z. absurd (omega arith)))
+
+  pub form-made : {n : ℕ} {refusal : ℕ} {exit : List ℕ} → 0 ≡ refusal → FormWritten (alphabetOf s) (rulesOf s) n exit entry → Answered refusal (Written n) exit
+  form-made e w = rw (← e) (ap Written (w .long), (w .bytes, λ z. record { holds = w .holds; within = omega (arith, w .long, w .within) }))

@@ -14,7 +14,8 @@ use Rattle.terms.specs.Count.{sizeOf, capped}
 use Rattle.terms.specs.Calls.{rulesAsked, makingRefusal, markingRefusal}
 use Rattle.terms.proofs.Test.{of-true}
 use Rattle.sheets.proofs.Asked.{asked-small}
-use Rattle.making.proofs.Formed.{form-of}
+use Rattle.making.specs.Making.{formOf}
+use Rattle.making.proofs.Formed.{form-of, written-first}
 use Rattle.marking.specs.declared.answer.Mark.{Mark}
 use Rattle.marking.specs.declared.answer.Mark.the-variants as mark
 use Rattle.marking.specs.Marking.{orVerdict, SlicesLeft}
@@ -85,7 +86,7 @@ module _ (sheet : List ℕ) (r : Mark) (answer : orVerdict (marked sheet (length
       let left = subst (λ (k : ℕ). SlicesLeft k sheet form′ form relations′ relations) none s in
       record {
         passes = sym only-sheet ∙ none;
-        written = left .written;
-        formed = form-of sheet (left .formed);
-        within = omega (arith, left .formed .within, same);
+        written = length (formOf sheet);
+        formed = rw (written-first (formOf sheet) form refl (left .formed)) (form-of sheet (left .made refl .holds));
+        within = omega (arith, left .made refl .within, same);
       }

@@ -5,11 +5,11 @@ use Prim.Native.Nat.{ℕ, _*_, _≤_}
 use lib.ListN.{length, take}
 use Rattle.terms.specs.Sheet.{wrapped}
 use Rattle.terms.specs.FormBytes.{ruleCount, ruleOffset}
-use Rattle.terms.specs.Calls.{lentAfter, rulesAsked, makingRefusal, wrapRefusal}
+use Rattle.terms.specs.Calls.{lentAfter, rulesAsked, wrapRefusal}
 use Rattle.wrapping.specs.Wrap.{wrapping}
 use Rattle.wrapping.specs.declared.wrap.Wrapping.{Wrapping}
 use Rattle.wrapping.specs.declared.wrap.Wrapping.the-variants as wrap
-use Rattle.making.specs.Making.{refusalOf, Leaves}
+use Rattle.making.specs.Making.{Makes}
 use Rattle.making.specs.declared.Making.{Making}
 use Rattle.making.specs.declared.Making.the-variants as making
 use Rattle.unfolding.specs.declared.unfold.Unfolding.{Unfolding}
@@ -22,7 +22,7 @@ use Rattle.restoring.specs.declared.restore.Restoring.{Restoring}
 -- form making on exactly the bytes that wrap wrote, or wrap's refusal handed on (01 One-hole form)
 abbrev pub MadeFrom : Wrapping → List ℕ → Making → List ℕ → List ℕ → Type 0
 MadeFrom (wrap.Refused n) sheet r exit entry = (r ≡ making.Refused n) × (exit ≡ entry)
-MadeFrom (wrap.Written n) sheet r exit entry = (refusalOf r ≡ makingRefusal (take n sheet) (length entry)) × Leaves (take n sheet) r exit entry
+MadeFrom (wrap.Written n) sheet r exit entry = Makes (take n sheet) r exit entry
 
 -- unfolding of exactly the bytes that form making wrote, or form making's refusal handed on (01 Unfolding)
 abbrev pub UnfoldedFrom : List ℕ → Making → List ℕ → Unfolding → List ℕ → List ℕ → List ℕ → List ℕ → Type 0

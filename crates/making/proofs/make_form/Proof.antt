@@ -1,7 +1,7 @@
 -- `making::make_form` meets its contract: the tests are those of the refusal, in its order.
-use mathlib.Core.Path.{refl, sym, _∙_}
+use mathlib.Core.Path.{sym, _∙_}
 use native.Mathlib.Omega.{arith}
-use Rattle.making.proofs.SheetRead.{sheet-refused, SheetRead, sheet-read, too-short, long-enough}
+use Rattle.making.proofs.SheetRead.{sheet-refused, SheetRead, sheet-read, too-short, long-enough, none-made, form-made}
 use borrow.Author.Needs.{needs}
 use denote.Ref.{now}
 use Rattle.making.proofs.make_form.Statement.{statement}
@@ -27,7 +27,7 @@ add-if1 : tie.Need-add-if1
 add-if1 c = omega (arith, known (c .before .before) .small)
 
 returns : tie.Need-returns
-returns c = (too-short (known (c .before .before .before)) _ (c .if1 .taken), (omega arith, refl))
+returns c = none-made _ _ _ (too-short (known (c .before .before .before)) _ (c .if1 .taken)) (omega arith)
 
 make-read-requires : tie.Need-make-read-requires
 make-read-requires c κs =
@@ -38,7 +38,7 @@ returns-2 : tie.Need-returns-2
 returns-2 c =
     let n = c .before in
     let refused = sheet-refused _ _ _ (sym (n .before .before .read-sheet .ensures) ∙ n .n .given .1) in
-    (refused .0, (refused .1, refl))
+    none-made _ _ _ (refused .0) (refused .1)
 
 same-length : tie.Need-same-length
 same-length c = search needs
@@ -47,7 +47,7 @@ returns-3 : tie.Need-returns-3
 returns-3 c =
     let call = c .before .before in
     let room = call .before .before in
-    (long-enough (known (room .before .before .before)) _ (room .if1 .left), call .make-read .ensures)
+    form-made _ _ (long-enough (known (room .before .before .before)) _ (room .if1 .left)) (call .make-read .ensures)
 
 pub make-form-spec : {M : Type 1} → statement M
 make-form-spec =
