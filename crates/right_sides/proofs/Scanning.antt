@@ -25,9 +25,9 @@ use Rattle.contraction.specs.Substitution.{Bounded, StoodRow}
 use Rattle.right_sides.specs.Side.{NodeReady, NodeMade, sideBound, RightSide, sideMade}
 use Rattle.cells.specs.declared.state.Free.{Free}
 use Rattle.cells.specs.declared.state.Made.{Made}
-use Rattle.grammars.specs.Rules.{ruledBy, HasRank}
-use Rattle.grammars.proofs.Rule.{rank-known}
-use Rattle.grammars.proofs.Node as node
+use Rattle.nodes.specs.Nodes.{ruledBy, HasRank}
+use Rattle.nodes.proofs.Node.{rank-known}
+use Rattle.nodes.proofs.Node as node
 use Rattle.cells.proofs.Standing.{row-at}
 use Rattle.cells.proofs.Adding.{grown-none, grown-then, grown-less, grown-within, grown-stands, grown-rows, room-less}
 
