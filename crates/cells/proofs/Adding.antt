@@ -10,7 +10,7 @@ use Rattle.skeletons.specs.Skeleton.{size}
 use Rattle.terms.proofs.Form.Valid.{length-end}
 use Rattle.form_bytes.specs.declared.rule.FormRule.{FormRule}
 use Rattle.cells.specs.Bytes.{fieldsFor, Holds}
-use Rattle.cells.specs.Cells.{field, Stands, Row, shutFields, underFields, branchFields}
+use Rattle.cells.specs.Cells.{field, Stands, Row, closedFields, overFields, terminalFields}
 use Rattle.cells.specs.State.{RuleAdded, CellAdded, Room, Grown}
 use Rattle.cells.specs.declared.state.Free.{Free}
 use Rattle.cells.specs.declared.state.Made.{Made}
@@ -45,10 +45,10 @@ module _ {fields space space′ : List ℕ} {free : Free} {r : Made} (b : CellAd
   made-lower = omega (arith, b .made, b .next)
 
 module _ {space space′ : List ℕ} {free : Free} {r : Made} where
-  pub shut-stands : (a : ℕ) → CellAdded (shutFields a) free space r space′ → Stands space′ (r .cell) (shut a)
+  pub shut-stands : (a : ℕ) → CellAdded (closedFields a) free space r space′ → Stands space′ (r .cell) (shut a)
   shut-stands a b = (new-field b 0 (omega arith), new-field b 1 (omega arith))
 
-  pub under-stands : (c child : ℕ) (s : Skeleton) → child < free .cell → Stands space child s → CellAdded (underFields c child) free space r space′
+  pub under-stands : (c child : ℕ) (s : Skeleton) → child < free .cell → Stands space child s → CellAdded (overFields c child) free space r space′
       → Stands space′ (r .cell) (under c s)
   under-stands c child s h p b = (
     new-field b 0 (omega arith),
@@ -58,7 +58,7 @@ module _ {space space′ : List ℕ} {free : Free} {r : Made} where
   )
 
   pub branch-stands : (f n c₀ c₁ c₂ c₃ : ℕ) (ss : Skeletons) → f < 256 → n ≡ size ss → Row space (free .cell) (c₀ ∷ c₁ ∷ c₂ ∷ c₃ ∷ []) ss
-      → CellAdded (branchFields f n c₀ c₁ c₂ c₃) free space r space′ → Stands space′ (r .cell) (branch f ss)
+      → CellAdded (terminalFields f n c₀ c₁ c₂ c₃) free space r space′ → Stands space′ (r .cell) (branch f ss)
   branch-stands f n c₀ c₁ c₂ c₃ ss small e p b = (
     new-field b 0 (omega arith),
     new-field b 1 (omega arith),

@@ -7,7 +7,7 @@ use Rattle.terms.specs.FormBytes.{ruleOffset}
 use Rattle.skeletons.specs.Make as model
 use Rattle.form_bytes.specs.declared.rule.FormRule.{FormRule}
 use Rattle.cells.specs.Bytes.{Holds, RuleWritten}
-use Rattle.cells.specs.Cells.{mostCells, spaceLength, Stands, CellWritten}
+use Rattle.cells.specs.Cells.{mostCells, spaceLength, Stands, CellWritten, terminalFields}
 use Rattle.cells.specs.declared.state.Free.{Free}
 use Rattle.cells.specs.declared.state.Made.{Made}
 
@@ -23,6 +23,10 @@ pub record CellAdded (fields : List ℕ) (free : Free) (cells : List ℕ) (r : M
   pub next : r .free .cell ≡ free .cell + 1
   pub made : r .cell ≡ free .cell
   pub written : CellWritten (free .cell) fields cells′ cells
+
+-- the cell of a terminal over so many of some cells is added
+abbrev pub TerminalAdded : ℕ → ℕ → List ℕ → Free → List ℕ → Made → List ℕ → Type 0
+TerminalAdded f rank xs free cells r cells′ = CellAdded (terminalFields f rank (getD xs 0 0) (getD xs 1 0) (getD xs 2 0) (getD xs 3 0)) free cells r cells′
 
 -- there is room for so many rules and cells
 pub record Room (rules cells : ℕ) (form space : List ℕ) (free : Free) : Type 0 where

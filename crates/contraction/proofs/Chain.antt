@@ -9,7 +9,7 @@ use Rattle.skeletons.specs.Skeleton.{Skeleton, param, shut, under, branch}
 use Rattle.skeletons.specs.Make.{contract-chain}
 use Rattle.form_bytes.specs.declared.rule.FormRule.{FormRule}
 use Rattle.cells.specs.Bytes.{fieldsWith, Holds}
-use Rattle.cells.specs.Cells.{field, Stands, shutFields, underFields}
+use Rattle.cells.specs.Cells.{field, Stands, closedFields, overFields}
 use Rattle.cells.specs.State.{RuleAdded, CellAdded, Stood}
 use Rattle.contraction.specs.Chain.{ChainContracted}
 use Rattle.cells.specs.declared.state.Free.{Free}
@@ -19,7 +19,7 @@ use Rattle.cells.proofs.Adding.{added-held, added-counted, shut-stands, under-s
 module _ {form space space′ : List ℕ} {free : Free} {r : Made} (c cell : ℕ) (lower : cell < free .cell) where
   -- over a rule of rank 0
   pub contract-chain-shut : {form′ : List ℕ} {free′ : Free} {rule : FormRule} (number : ℕ) → field space cell 0 ≡ 1 → field space cell 1 ≡ number
-      → rule ≡ fieldsWith 2 0xFF 0 (c ∷ number ∷ []) → RuleAdded rule free form free′ form′ → CellAdded (shutFields (free .rule .0)) free′ space r space′
+      → rule ≡ fieldsWith 2 0xFF 0 (c ∷ number ∷ []) → RuleAdded rule free form free′ form′ → CellAdded (closedFields (free .rule .0)) free′ space r space′
       → ChainContracted form space free c cell form′ space′ r
   unfolding contract-chain
   contract-chain-shut {form′} {free′} number kind is made a b = record { grown = grown-then (rule-grown a) (cell-grown b); lower = made-lower b; stood = stood }
@@ -39,7 +39,7 @@ module _ {form space space′ : List ℕ} {free : Free} {r : Made} (c cell : ℕ
 
   -- over a rule of rank 1
   pub contract-chain-under : {form′ : List ℕ} {free′ : Free} {rule : FormRule} (number child : ℕ) → field space cell 0 ≡ 2 → field space cell 1 ≡ number → field space cell 3 ≡ child
-      → rule ≡ fieldsWith 3 0xFF 0 (c ∷ number ∷ []) → RuleAdded rule free form free′ form′ → CellAdded (underFields (free .rule .0) child) free′ space r space′
+      → rule ≡ fieldsWith 3 0xFF 0 (c ∷ number ∷ []) → RuleAdded rule free form free′ form′ → CellAdded (overFields (free .rule .0) child) free′ space r space′
       → ChainContracted form space free c cell form′ space′ r
   unfolding contract-chain
   contract-chain-under {form′} {free′} number child kind is at made a b = record { grown = grown-then (rule-grown a) (cell-grown b); lower = made-lower b; stood = stood }
@@ -58,7 +58,7 @@ module _ {form space space′ : List ℕ} {free : Free} {r : Made} (c cell : ℕ
       stood rs (branch f ss) held e p = absurd (omega (arith, p .0))
 
   -- over anything else
-  pub contract-chain-plain : (field space cell 0 ≡ 1 → ⊥) → (field space cell 0 ≡ 2 → ⊥) → CellAdded (underFields c cell) free space r space′
+  pub contract-chain-plain : (field space cell 0 ≡ 1 → ⊥) → (field space cell 0 ≡ 2 → ⊥) → CellAdded (overFields c cell) free space r space′
       → ChainContracted form space free c cell form space′ r
   unfolding contract-chain
   contract-chain-plain no-rule no-context b = record { grown = grown-less (omega arith) (omega arith) (cell-grown b); lower = made-lower b; stood = stood }

@@ -1,9 +1,10 @@
 -- Instances of the children of a cell, the last one first, are steps of the model, and so is the terminal over them.
 use mathlib.Core.Path.{_≡_, refl, sym, subst, ap, _∙_}
 use mathlib.Core.List.{List, _∷_}
-use Prim.Native.Nat.{ℕ, zero, suc, _+_, _*_, _≤_, _<_}
+use Prim.Native.Nat.{ℕ, zero, suc, _+_, _*_, _%_, _≤_, _<_}
 use native.Mathlib.Omega.{arith}
 use native.Mathlib.Decide.{decLt}
+use native.Mathlib.Nat.{mod-eq-of-lt}
 use lib.ListN.{length, getD, drop, set, length-set}
 use lib.Seq.{drop-cons, drop-set-lt, getD-set-same, getD-set-other}
 use Rattle.terms.specs.Form.{Rule}
@@ -213,6 +214,10 @@ module _ {form space : List ℕ} {free : Free} {xs : List ℕ} {cell : ℕ} (i :
         small = omega (arith, p .1, p .4);
         room = room-less (omega arith) (omega arith) r;
       }
+
+  -- the cell's number is its terminal's
+  pub number-is : {n : ℕ} → field space cell 1 % 256 ≡ n → n ≡ field space cell 1
+  number-is e = sym e ∙ mod-eq-of-lt (over .small)
 
   module _ {form₁ space₁ : List ℕ} {free₁ : Free} {made : List ℕ} (b : InstancedFrom form space free xs cell 0 form₁ space₁ free₁ made) where
     pub branch-room : Room 2 1 form₁ space₁ free₁

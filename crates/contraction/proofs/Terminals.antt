@@ -10,10 +10,10 @@ use Rattle.skeletons.specs.Make.{Sort, closed, single, several, sort, contract-
 use Rattle.skeletons.specs.Skeleton.{size}
 use Rattle.form_bytes.specs.declared.rule.FormRule.{FormRule}
 use Rattle.cells.specs.Bytes.{fieldsFor, Holds}
-use Rattle.cells.specs.Cells.{Row, shutFields, branchFields}
-use Rattle.cells.specs.State.{RuleAdded, CellAdded, Stood}
+use Rattle.cells.specs.Cells.{Row, closedFields}
+use Rattle.cells.specs.State.{RuleAdded, CellAdded, TerminalAdded, Stood}
 use Rattle.contraction.specs.Chain.{ChainContracted}
-use Rattle.contraction.specs.Terminal.{Children, Sorted, Opens, fieldsOver, ContractedWhere, TerminalContracted, BranchAdded}
+use Rattle.contraction.specs.Terminal.{Children, Sorted, Opens, fieldsOver, ContractedWhere, TerminalContracted}
 use Rattle.contraction.specs.declared.contract_terminal.Open.{Open}
 use Rattle.contraction.specs.declared.contract_terminal.Open.the-variants.{Nowhere, At, Several}
 use Rattle.cells.specs.declared.state.Free.{Free}
@@ -24,7 +24,7 @@ use Rattle.contraction.proofs.OpenChildren.{Described, described, close
 
 module _ {form form′ space space′ : List ℕ} {free free′ : Free} {r : Made} {rule : FormRule} (f rank : ℕ) (xs : List ℕ) where
   -- over closed cells
-  pub closes : rule ≡ fieldsOver space 0 f 0 rank xs → RuleAdded rule free form free′ form′ → CellAdded (shutFields (free .rule .0)) free′ space r space′
+  pub closes : rule ≡ fieldsOver space 0 f 0 rank xs → RuleAdded rule free form free′ form′ → CellAdded (closedFields (free .rule .0)) free′ space r space′
       → ContractedWhere Nowhere form space free f rank xs form′ space′ r
   unfolding contract-terminal contract-terminal-by
   closes is a b = record { grown = grown-less (omega arith) (omega arith) (grown-then (rule-grown a) (cell-grown b)); lower = made-lower b; stood = stood }
@@ -75,7 +75,7 @@ four-same xs (suc (suc (suc zero))) h = refl
 four-same xs (suc (suc (suc (suc j)))) h = absurd (omega arith)
 
 -- over cells of which several are open
-pub branches : {form space space′ : List ℕ} {free : Free} {r : Made} (f rank : ℕ) (xs : List ℕ) → f < 256 → rank ≤ 4 → BranchAdded space free f rank xs space′ r
+pub branches : {form space space′ : List ℕ} {free : Free} {r : Made} (f rank : ℕ) (xs : List ℕ) → f < 256 → rank ≤ 4 → TerminalAdded f rank xs free space r space′
     → ContractedWhere Several form space free f rank xs form space′ r
 unfolding contract-terminal contract-terminal-by
 branches {form} {space} {space′} {free} {r} f rank xs small few b = record { grown = grown-less (omega arith) (omega arith) (cell-grown b); lower = made-lower b; stood = stood }
@@ -103,11 +103,6 @@ grows {space = space} {free = free} f rank xs o′ e p g = record {
   lower = g .lower;
   stood = λ rs ss held n row count. g .stood rs ss held n row count (rw e at (p .sorted (free .cell) ss row count));
 }
-
-pub branch-added : {space space′ : List ℕ} {free : Free} {r : Made} (f rank : ℕ) (xs : List ℕ) {c₀ c₁ c₂ c₃ : ℕ}
-    → c₀ ≡ getD xs 0 0 → c₁ ≡ getD xs 1 0 → c₂ ≡ getD xs 2 0 → c₃ ≡ getD xs 3 0
-    → CellAdded (branchFields f rank c₀ c₁ c₂ c₃) free space r space′ → BranchAdded space free f rank xs space′ r
-branch-added f rank xs e₀ e₁ e₂ e₃ b = rw (e₀, e₁, e₂, e₃) at b
 
 pub children-below : {rank limit : ℕ} {xs : List ℕ} (limit′ : ℕ) → limit ≤ limit′ → Children rank limit xs → Children rank limit′ xs
 children-below limit′ h p = record { few = p .few; there = p .there; each = λ j l. omega (arith, p .each j l) }

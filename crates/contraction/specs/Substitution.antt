@@ -9,7 +9,7 @@ use Rattle.skeletons.specs.Make.{substitute, substitutes}
 use Rattle.skeletons.specs.Make as model
 use Rattle.skeletons.specs.Skeleton.{size, weight, weights}
 use Rattle.cells.specs.Bytes.{Holds}
-use Rattle.cells.specs.Cells.{field, childrenOf, Stands, Row}
+use Rattle.cells.specs.Cells.{countOf, childrenOf, Stands, Row}
 use Rattle.cells.specs.State.{Room, Grown, Stood}
 use Rattle.cells.specs.declared.state.Free.{Free}
 use Rattle.cells.specs.declared.state.Made.{Made}
@@ -46,14 +46,14 @@ pub record Instanced (form space : List ℕ) (free : Free) (xs : List ℕ) (cell
 -- the children of a cell from child j on represent skeletons
 pub record From (space : List ℕ) (cell j : ℕ) (us : Skeletons) : Type 0 where
   pub row : Row space cell (drop j (childrenOf space cell)) us
-  pub count : size us + j ≡ field space cell 2
+  pub count : size us + j ≡ countOf space cell
 
 -- the same for the children of a cell, from child j on
 pub record InstanceFrom (form space : List ℕ) (free : Free) (xs : List ℕ) (cell j : ℕ) : Type 0 where
   pub skeletons : Skeletons
   pub arguments : Skeletons
   pub children : From space cell j skeletons
-  pub four : field space cell 2 ≤ 4
+  pub four : countOf space cell ≤ 4
   pub lower : cell < free .cell
   pub row : Row space (free .cell) xs arguments
   pub bounded : AllBounded (size arguments) skeletons
@@ -68,6 +68,6 @@ pub record StoodRow (m : model.Mades) (form space : List ℕ) (free : Free) (ys 
 pub record InstancedFrom (form space : List ℕ) (free : Free) (xs : List ℕ) (cell j : ℕ) (form′ space′ : List ℕ) (free′ : Free) (made : List ℕ) : Type 0 where
   pub grown : (us : Skeletons) → From space cell j us → Grown (weights us) (weights us) form space free form′ space′ free′
   pub four : length made ≡ 4
-  pub each : (k : ℕ) → j ≤ k → k < field space cell 2 → getD made k 0 < free′ .cell
+  pub each : (k : ℕ) → j ≤ k → k < countOf space cell → getD made k 0 < free′ .cell
   pub stood : (rs : List Rule) (us ss : Skeletons) → Holds form rs → free .rule .0 ≡ length rs → From space cell j us → Row space (free .cell) xs ss
       → AllBounded (size ss) us → StoodRow (substitutes ss us rs) form′ space′ free′ (drop j made)

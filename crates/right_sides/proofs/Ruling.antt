@@ -4,10 +4,11 @@ use mathlib.Core.List.{List, [], _∷_}
 use Prim.Native.Nat.{ℕ, zero, suc, _+_, _*_, _-_, _≤_, _<_}
 use native.Mathlib.Omega.{arith}
 use borrow.Author.Count.{below-more}
-use lib.ListN.{length, getD, drop, set, replicate, length-set}
+use lib.ListN.{length, getD, drop, set, length-set}
 use lib.Seq.{drop-cons, getD-set-same, getD-set-other}
 use Rattle.terms.specs.Grammar.{Rule, ruleAt, ruleRank, rankIn, sumRules}
 use Rattle.terms.specs.Form.{formBound}
+use Rattle.terms.specs.declared.Rule.{Rule as Number}
 use Rattle.terms.specs.Sheet.{rulesBody}
 use Rattle.terms.specs.Check.{mostRules}
 use Rattle.terms.specs.FormBytes.{ruleOffset}
@@ -21,26 +22,16 @@ use Rattle.grammars.specs.Cursor.{spanAt, ruleIn}
 use Rattle.grammars.specs.declared.cursor.Span.{Span}
 use Rattle.grammars.proofs.Body.{nodes-long, Standing, standing, inside-body, Passed, none-passed, rule-passed}
 use Rattle.cells.specs.Bytes.{Holds}
-use Rattle.cells.specs.Cells.{mostCells, spaceLength, field, Stands}
+use Rattle.cells.specs.Cells.{mostCells, spaceLength, Stands, closedAt, Parameters}
 use Rattle.cells.specs.State.{Room, Grown, Stood}
 use Rattle.right_sides.specs.Side.{Known, sideBound, RightSide, SideMade}
-use Rattle.right_sides.specs.Rules.{Parameters, Grammar, modelOf, RulesMade}
+use Rattle.right_sides.specs.Rules.{Grammar, modelOf, RulesMade}
 use Rattle.cells.specs.declared.state.Free.{Free}
 use Rattle.cells.specs.declared.state.Made.{Made}
 use Rattle.cells.proofs.Held.{held-none}
+use Rattle.cells.proofs.Reading.{closed-rule-is}
 use Rattle.cells.proofs.Adding.{grown-stands}
 use Rattle.right_sides.proofs.Lower.{old-skeleton, new-skeleton, lower-bounded, lower-light}
-
--- the cells of the parameters
-pub first-cells : {space : List ℕ} → space ≡ replicate spaceLength 0 → Parameters (set (set (set space 8 1) 15 2) 22 3)
-first-cells e = rw e record { all = refl; parameters = each }
-  where
-    each : (j : ℕ) → j < 4 → Stands (set (set (set (replicate spaceLength 0) 8 1) 15 2) 22 3) j (param j)
-    each zero h = (refl, refl)
-    each (suc zero) h = (refl, refl)
-    each (suc (suc zero)) h = (refl, refl)
-    each (suc (suc (suc zero))) h = (refl, refl)
-    each (suc (suc (suc (suc j)))) h = absurd (omega arith)
 
 module _ {form₀ alphabet body : List ℕ} {count : ℕ} (g : Grammar form₀ alphabet body count) where
   abbrev rules : List Rule
@@ -230,15 +221,16 @@ module _ {form₀ alphabet body : List ℕ} {count : ℕ} (g : Grammar form₀ a
     cells-fit = omega (arith, s .few-cells, s .passed .nodes, g .few)
 
     -- the start's cell represents a rule of the form
-    pub begins : (n : ℕ) → n ≡ count - 1 → skeletonOf (modelOf alphabet rules) (length rules - 1) ≡ shut (field space (getD roots n 0) 1)
+    pub begins : (n : ℕ) → n ≡ count - 1 → skeletonOf (modelOf alphabet rules) (length rules - 1) ≡ shut (closedAt space (getD roots n 0))
     begins n e =
         let z : n ≡ length rules - 1 = omega (arith, g .count) in
         let f = scanned-form alphabet rules (g .proper) in
         let p : Stands space (getD roots (length rules - 1) 0) (shut (f .0)) = rw (f .1) at (final .known .stands (length rules - 1) last) in
-        rw (z, p .1) (f .1)
+        rw (z, closed-rule-is space (getD roots (length rules - 1) 0) p) (f .1)
 
-    pub finished : {n start : ℕ} → n ≡ count - 1 → start ≡ field space (getD roots n 0) 1 → RulesMade form₀ alphabet body form (record { count = free .rule; start = record { 0 = start } })
-    finished {n} {start} e is = record {
+    pub finished : {n : ℕ} {start : Number} → n ≡ count - 1 → start .0 ≡ closedAt space (getD roots n 0)
+        → RulesMade form₀ alphabet body form (record { count = free .rule; start = start })
+    finished {n} e is = record {
       held = final .held;
       counted = final .counted;
       begun = rw is (begins n e);

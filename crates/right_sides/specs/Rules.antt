@@ -9,17 +9,11 @@ use Rattle.terms.specs.Form.{formBound}
 use Rattle.terms.specs.Sheet.{rulesBody}
 use Rattle.terms.specs.Check.{alphabetRefusal, mostNodes}
 use Rattle.terms.specs.FormBytes.{ruleOffset}
-use Rattle.skeletons.specs.Skeleton.{param, shut}
+use Rattle.skeletons.specs.Skeleton.{shut}
 use Rattle.skeletons.specs.Make.{Form, skeletonOf}
 use Rattle.skeletons.specs.Scan.{scanned}
 use Rattle.cells.specs.Bytes.{Holds}
-use Rattle.cells.specs.Cells.{spaceLength, Stands}
 use Rattle.right_sides.specs.declared.rules.Whole.{Whole}
-
--- the first cells represent the parameters
-pub record Parameters (space : List ℕ) : Type 0 where
-  pub all : length space ≡ spaceLength
-  pub parameters : (j : ℕ) → j < 4 → Stands space j (param j)
 
 -- the rules of a body are a grammar over the alphabet, and there is room for its form
 pub record Grammar (form terminals body : List ℕ) (rules : ℕ) : Type 0 where

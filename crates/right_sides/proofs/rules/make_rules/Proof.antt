@@ -126,22 +126,22 @@ last c =
     let g = start turn .pre in
     omega (arith, g .count, g .proper .some, few-rules g, turn .loop .inv g .known .rooted)
 
-sub-field : tie.Need-sub-field Inv-loop μ-loop
-sub-field c = omega (arith, last (c .before))
+sub-closed-rule : tie.Need-sub-closed-rule Inv-loop μ-loop
+sub-closed-rule c = omega (arith, last (c .before))
 
-mul-field : tie.Need-mul-field Inv-loop μ-loop
-mul-field c = omega (arith, last (c .before))
+mul-closed-rule : tie.Need-mul-closed-rule Inv-loop μ-loop
+mul-closed-rule c = omega (arith, last (c .before))
 
-array-read-field : tie.Need-array-read-field Inv-loop μ-loop
-array-read-field c = omega (arith, last (c .before))
+array-read-closed-rule : tie.Need-array-read-closed-rule Inv-loop μ-loop
+array-read-closed-rule c = omega (arith, last (c .before))
 
-field-requires : tie.Need-field-requires Inv-loop μ-loop
-field-requires c κs =
+closed-rule-requires : tie.Need-closed-rule-requires Inv-loop μ-loop
+closed-rule-requires c κs =
     let turn = c .before .before .before in
     let g = start turn .pre in
     let s = turn .loop .inv g in
     let left = c .before .if1 .left in
-    (s .all, omega (arith, start-lower g s left _ refl, cells-fit g s left), omega arith)
+    (s .all, omega (arith, start-lower g s left _ refl, cells-fit g s left))
 
 abbrev ended : tie.After-count Inv-loop μ-loop → tie.Else1 Inv-loop μ-loop
 ended c = c .before .before .before
@@ -154,7 +154,7 @@ returns c =
     let test = ended c in
     let turn = test .before .before in
     let g = start turn .pre in
-    finished g (turn .loop .inv g) (test .if1 .left) refl (c .before .field .ensures)
+    finished g (turn .loop .inv g) (test .if1 .left) refl (c .before .closed-rule .ensures)
 
 pub make-rules-spec : {M : Type 1} → statement M
 make-rules-spec =
@@ -178,9 +178,9 @@ make-rules-spec =
     add-t35
     loop-less
     loop-again
-    sub-field
-    mul-field
-    array-read-field
-    field-requires
+    sub-closed-rule
+    mul-closed-rule
+    array-read-closed-rule
+    closed-rule-requires
     same-length
     returns)

@@ -1,8 +1,8 @@
--- `contraction::contract_terminal::branch` meets its contract: the cell's children are the first four.
-use Rattle.contraction.proofs.Terminals.{branch-added}
+-- `cells::cells::add_terminal` meets its contract: the cell's children are the first four.
+use Rattle.cells.proofs.Reading.{terminal-added}
 use borrow.Author.Needs.{needs}
-use Rattle.contraction.proofs.contract_terminal.branch.Statement.{statement}
-use Rattle.contraction.proofs.contract_terminal.branch.Tie as tie
+use Rattle.cells.proofs.cells.add_terminal.Statement.{statement}
+use Rattle.cells.proofs.cells.add_terminal.Tie as tie
 
 cast-t7 : tie.Need-cast-t7
 cast-t7 c = search needs
@@ -27,10 +27,10 @@ returns c =
     let fourth = c .before .before .before in
     let third = fourth .before in
     let second = third .before in
-    branch-added _ _ (second .before .before .before .before .args .children .now) (second .before .child .ensures) (second .child2 .ensures) (third .child3 .ensures) (fourth .child4 .ensures) (c .add-cell .ensures)
+    terminal-added _ _ (second .before .before .before .before .args .children .now) (second .before .child .ensures) (second .child2 .ensures) (third .child3 .ensures) (fourth .child4 .ensures) (c .add-cell .ensures)
 
-pub branch-spec : {M : Type 1} → statement M
-branch-spec =
+pub add-terminal-spec : {M : Type 1} → statement M
+add-terminal-spec =
     tie.close
     (tie.spec
     cast-t7

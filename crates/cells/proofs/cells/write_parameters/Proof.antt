@@ -1,8 +1,8 @@
--- `right_sides::rules::write_parameters` meets its contract: of cells that are all 0, the numbers of the first four are those of the parameters.
-use Rattle.right_sides.proofs.Ruling.{first-cells}
+-- `cells::cells::write_parameters` meets its contract: of cells that are all 0, the numbers of the first four are those of the parameters.
+use Rattle.cells.proofs.Reading.{first-cells}
 use borrow.Author.Needs.{needs}
-use Rattle.right_sides.proofs.rules.write_parameters.Statement.{statement}
-use Rattle.right_sides.proofs.rules.write_parameters.Tie as tie
+use Rattle.cells.proofs.cells.write_parameters.Statement.{statement}
+use Rattle.cells.proofs.cells.write_parameters.Tie as tie
 
 add-cells : tie.Need-add-cells
 add-cells c = search needs

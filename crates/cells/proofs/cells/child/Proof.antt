@@ -1,10 +1,10 @@
--- `contraction::contract_terminal::child` meets its contract: past the end of a list stands 0.
+-- `cells::cells::child` meets its contract: past the end of a list stands 0.
 use mathlib.Core.Path.{sym}
 use native.Mathlib.Omega.{arith}
 use lib.ListN.{List·getD-eq-default}
 use borrow.Author.Needs.{needs}
-use Rattle.contraction.proofs.contract_terminal.child.Statement.{statement}
-use Rattle.contraction.proofs.contract_terminal.child.Tie as tie
+use Rattle.cells.proofs.cells.child.Statement.{statement}
+use Rattle.cells.proofs.cells.child.Tie as tie
 
 mul-result : tie.Need-mul-result
 mul-result c = search needs
