@@ -13,9 +13,9 @@ use Rattle.terms.specs.Automaton.{mask}
 use Rattle.terms.specs.Form.{Rule, closed, valueAt}
 use Rattle.terms.specs.Sheet.{alphabetOf, automatonOf, rulesOf, transitionsOf, sheetTree}
 use Rattle.terms.specs.Check.{isOne, isTree, treeRefusal, sheetRefusal}
-use Rattle.terms.specs.FormBytes.{ruleCount, startOf, ruleOffset, formRules, formTree}
+use Rattle.terms.specs.FormBytes.{ruleCount, startOf, formLength, formRules, formTree}
 use Rattle.terms.specs.Count.{sizeOf}
-use Rattle.terms.specs.Calls.{rulesAsked, makingRefusal, openingRefusal, evaluationRefusal, formMask, sizeRefusal, unfoldingRefusal, mostWalked, walkRefusal, walkMask}
+use Rattle.terms.specs.Calls.{rulesAsked, makingRefusal, openingRefusal, evaluationRefusal, formMask, countsPerRule, sizeRefusal, unfoldingRefusal, mostWalked, walkRefusal, walkMask}
 use Rattle.terms.specs.Demand.{FormOfSheet, MaskOfRuns, Demand3}
 use Rattle.terms.proofs.Test.{is-true, both}
 use Rattle.terms.proofs.Tree.Whole.{wholes-preorder, tree-of-preorder}
@@ -63,9 +63,9 @@ module _ (sheet : List ℕ) (passes : sheetRefusal sheet ≡ 0) where
   unfolding walkMask sheetTree
   walk-answers = ap (mask (transitionsOf alphabet automaton)) (tree-of-preorder (terminalRank alphabet) tree (derived-ranked alphabet (rulesOf sheet) (sheet-proper sheet passes)))
 
-  pub making-passes : (room : ℕ) → ruleOffset (rulesAsked sheet) ≤ room → makingRefusal sheet room ≡ 0
+  pub making-passes : (room : ℕ) → formLength (rulesAsked sheet) ≤ room → makingRefusal sheet room ≡ 0
   unfolding makingRefusal
-  making-passes room h = rw (passes, le-ltb room (ruleOffset (rulesAsked sheet)) h)
+  making-passes room h = rw (passes, le-ltb room (formLength (rulesAsked sheet)) h)
 
   module _ (form : List ℕ) (formed : FormOfSheet sheet form) where
     abbrev rules : List Rule
@@ -94,10 +94,10 @@ module _ (sheet : List ℕ) (passes : sheetRefusal sheet ≡ 0) where
     unfolding evaluationRefusal
     evaluation-passes numbers h = rw (passed .alphabet, passed .automaton, formed .valid, le-ltb numbers (ruleCount form) h)
 
-    unfolding-passes : (numbers room : ℕ) → 2 * ruleCount form ≤ numbers → sizeOf tree ≤ room → unfoldingRefusal alphabet form numbers room ≡ 0
+    unfolding-passes : (numbers room : ℕ) → countsPerRule * ruleCount form ≤ numbers → sizeOf tree ≤ room → unfoldingRefusal alphabet form numbers room ≡ 0
     unfolding unfoldingRefusal sizeRefusal openingRefusal
     unfolding-passes numbers room h k =
-        rw (passed .alphabet, formed .valid, le-ltb numbers (2 * ruleCount form) h, formed .tree, le-ltb room (sizeOf tree) k)
+        rw (passed .alphabet, formed .valid, le-ltb numbers (countsPerRule * ruleCount form) h, formed .tree, le-ltb room (sizeOf tree) k)
 
     pub form-meets : Demand3 sheet form
     form-meets = record {

@@ -1,7 +1,7 @@
--- `forms::check::slot_unused` meets its contract: what is compared is the slot.
+-- `rule_checks::slot_unused` meets its contract: what is compared is the slot.
 use borrow.Author.Needs.{needs}
-use Rattle.forms.proofs.check.slot_unused.Statement.{statement}
-use Rattle.forms.proofs.check.slot_unused.Tie as tie
+use Rattle.rule_checks.proofs.slot_unused.Statement.{statement}
+use Rattle.rule_checks.proofs.slot_unused.Tie as tie
 
 slot-of-requires : tie.Need-slot-of-requires
 slot-of-requires c κs = search needs

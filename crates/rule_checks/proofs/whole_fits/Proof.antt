@@ -1,8 +1,8 @@
--- `forms::check::whole_fits` meets its contract: the tests are those of the definition at kind 0, in its order.
+-- `rule_checks::whole_fits` meets its contract: the tests are those of the definition at kind 0, in its order.
 use borrow.Author.Needs.{needs}
 use borrow.Author.Tests.{lt-ltb, le-ltb, eq-eqb, ne-eqb}
-use Rattle.forms.proofs.check.whole_fits.Statement.{statement}
-use Rattle.forms.proofs.check.whole_fits.Tie as tie
+use Rattle.rule_checks.proofs.whole_fits.Statement.{statement}
+use Rattle.rule_checks.proofs.whole_fits.Tie as tie
 
 cast-if1 : tie.Need-cast-if1
 cast-if1 c = search needs

@@ -1,8 +1,8 @@
--- `forms::check::pierced_fits` meets its contract: the tests are those of the definition at kind 1, in its order.
+-- `rule_checks::pierced_fits` meets its contract: the tests are those of the definition at kind 1, in its order.
 use borrow.Author.Needs.{needs}
 use borrow.Author.Tests.{lt-ltb, le-ltb}
-use Rattle.forms.proofs.check.pierced_fits.Statement.{statement}
-use Rattle.forms.proofs.check.pierced_fits.Tie as tie
+use Rattle.rule_checks.proofs.pierced_fits.Statement.{statement}
+use Rattle.rule_checks.proofs.pierced_fits.Tie as tie
 
 cast-if1 : tie.Need-cast-if1
 cast-if1 c = search needs

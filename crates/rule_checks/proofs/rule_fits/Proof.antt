@@ -1,4 +1,4 @@
--- `forms::check::rule_fits` meets its contract: where the fourth byte is 00, the definition goes by the kind, as the code does.
+-- `rule_checks::rule_fits` meets its contract: where the fourth byte is 00, the definition goes by the kind, as the code does.
 use mathlib.Core.Path.{_≡_, refl, sym, _∙_}
 use mathlib.Core.Bool.{false}
 use mathlib.Core.List.{List}
@@ -9,29 +9,29 @@ use borrow.Author.Tests.{eq-eqb, ne-eqb}
 use lib.ListN.{length}
 use Rattle.terms.specs.Grammar.{terminalRank}
 use Rattle.terms.specs.FormBytes.{ruleByte, kindFits, ruleFits}
-use Rattle.forms.proofs.check.rule_fits.Statement.{statement}
-use Rattle.forms.proofs.check.rule_fits.Tie as tie
+use Rattle.rule_checks.proofs.rule_fits.Statement.{statement}
+use Rattle.rule_checks.proofs.rule_fits.Tie as tie
 
 -- there is no kind above 3
-no-kind : (form : List ℕ) (i kind t f n h : ℕ) → 4 ≤ kind → kindFits form i kind t f n h ≡ false
-no-kind form i zero t f n h l = absurd (omega arith)
-no-kind form i (suc zero) t f n h l = absurd (omega arith)
-no-kind form i (suc (suc zero)) t f n h l = absurd (omega arith)
-no-kind form i (suc (suc (suc zero))) t f n h l = absurd (omega arith)
-no-kind form i (suc (suc (suc (suc kind)))) t f n h l = refl
+no-kind : (table : List ℕ) (i kind t f n h : ℕ) → 4 ≤ kind → kindFits table i kind t f n h ≡ false
+no-kind table i zero t f n h l = absurd (omega arith)
+no-kind table i (suc zero) t f n h l = absurd (omega arith)
+no-kind table i (suc (suc zero)) t f n h l = absurd (omega arith)
+no-kind table i (suc (suc (suc zero))) t f n h l = absurd (omega arith)
+no-kind table i (suc (suc (suc (suc kind)))) t f n h l = refl
 
 -- what is left to test where the fourth byte is 00
-by-kind : (alphabet form : List ℕ) (i kind f h : ℕ) → ruleByte form i 3 ≡ 0 → kind ≡ ruleByte form i 0 → f ≡ ruleByte form i 1 → h ≡ ruleByte form i 2
-    → ruleFits alphabet form i ≡ kindFits form i kind (length alphabet) f (terminalRank alphabet f) h
+by-kind : (alphabet table : List ℕ) (i kind f h : ℕ) → ruleByte table i 3 ≡ 0 → kind ≡ ruleByte table i 0 → f ≡ ruleByte table i 1 → h ≡ ruleByte table i 2
+    → ruleFits alphabet table i ≡ kindFits table i kind (length alphabet) f (terminalRank alphabet f) h
 unfolding ruleFits
-by-kind alphabet form i kind f h fourth e0 e1 e2 = rw (eq-eqb _ _ fourth, e0, e1, e2)
+by-kind alphabet table i kind f h fourth e0 e1 e2 = rw (eq-eqb _ _ fourth, e0, e1, e2)
 
 -- the same where the code has read the fields
 fields : (c : tie.After-hole-of) →
     let a = c .before .before .before .before .before .before .before .args in
     let f = c .before .terminal-of .result .0 in
-    ruleFits (a .alphabet .now) (a .form .now) (a .i)
-    ≡ kindFits (a .form .now) (a .i) (c .before .before .kind-of .result) (length (a .alphabet .now)) f (terminalRank (a .alphabet .now) f) (c .hole-of .result)
+    ruleFits (a .alphabet .now) (a .table .now) (a .rule .0)
+    ≡ kindFits (a .table .now) (a .rule .0) (c .before .before .kind-of .result) (length (a .alphabet .now)) f (terminalRank (a .alphabet .now) f) (c .hole-of .result)
 fields c =
     let kind = c .before .before in
     let blank = kind .before in

@@ -1,9 +1,9 @@
--- `forms::check::chain_fits` meets its contract: the tests are those of the definition, in its order.
+-- `rule_checks::chain_fits` meets its contract: the tests are those of the definition, in its order.
 use borrow.Author.Needs.{needs}
 use borrow.Author.Tests.{eq-eqb, ne-eqb}
-use Rattle.forms.proofs.Laws.{failed, passed}
-use Rattle.forms.proofs.check.chain_fits.Statement.{statement}
-use Rattle.forms.proofs.check.chain_fits.Tie as tie
+use Rattle.rule_checks.proofs.Laws.{failed, passed}
+use Rattle.rule_checks.proofs.chain_fits.Statement.{statement}
+use Rattle.rule_checks.proofs.chain_fits.Tie as tie
 
 returns : tie.Need-returns
 returns c = rw (ne-eqb _ _ (c .if1 .taken))
