@@ -1,5 +1,5 @@
 -- What is known of a form that is not refused, and of rule i of its table by its kind: what it is, and that it names lower rules.
-use mathlib.Core.Path.{_≡_, refl, sym}
+use mathlib.Core.Path.{_≡_, refl, sym, _∙_}
 use mathlib.Core.Logic.{_⊎_, inl, inr}
 use mathlib.Core.List.{List}
 use Prim.Native.Nat.{ℕ, zero, suc, _+_, _*_, _-_, _≤_, _<_}
@@ -137,6 +137,10 @@ module _ (alphabet form : List ℕ) (a : alphabetRefusal alphabet ≡ 0) (e : fo
         few = omega (arith, passed .few);
         fits = is-true _ (every-of (tableCount (tableOf form)) (ruleFits alphabet (tableOf form)) (λ i h. passed .fits i (omega arith)));
       }
+
+  -- what a call that has parted the form knows of the table and of the number of its rules
+  pub parted : (table : List ℕ) (count : ℕ) → table ≡ tableOf form → count ≡ ruleCount form → ValidTable alphabet table × (count ≡ tableCount table)
+  parted table count t n = rw t (valid-table, n ∙ sym rules-in-table)
 
 -- what passes the opening
 pub opening-passed : (alphabet form : List ℕ) → openingRefusal alphabet form ≡ 0 → (alphabetRefusal alphabet ≡ 0) × (formRefusal alphabet form ≡ 0)
