@@ -23,7 +23,7 @@ ghost use Rattle.terms.specs.Check.{automatonRefusal};
 ghost use Rattle.terms.specs.Calls.{lentAfter, evaluationRefusal, relationsOf, formMask};
 ghost use Rattle.forms.specs.Private.Table.{ValidTable};
 ghost use Rattle.evaluation.specs.Private.Evaluable.{Evaluable, entryIn, relationsIn};
-ghost use Rattle.evaluation.specs.Evaluation.{evaluation};
+ghost use Rattle.evaluation.specs.Evaluation.{evaluation, RightByRuns};
 
 // What evaluating a form answers: the refusal, or the mask of the states at the root of the form's tree.
 pub enum Evaluation {
@@ -157,10 +157,11 @@ pub fn evaluate_checked(alphabet: &[u8], automaton: &[u8], form: &[u8], relation
 }
 
 // Evaluates a form: refused by 3 and 4 for the alphabet, 14 to 16 for the automaton, 18 for the form, 19 for a slice with fewer numbers than the form has rules.
-// The slice ends with the rules' entries, its later numbers kept.
+// The slice ends with the rules' entries, its later numbers kept. The entries and the mask are what runs say.
 pub fn evaluate(alphabet: &[u8], automaton: &[u8], form: &[u8], relations: &mut [u64]) -> Evaluation
-    ensures { λ r. ⌜ r ≡ evaluation (now (alphabet .entry)) (now (automaton .entry)) (now (form .entry)) (length (now (relations .entry))) ⌝ }
-    ensures { λ r. ⌜ now (relations .exit) ≡ lentAfter (evaluationRefusal (now (alphabet .entry)) (now (automaton .entry)) (now (form .entry)) (length (now (relations .entry)))) (relationsOf (now (alphabet .entry)) (now (automaton .entry)) (now (form .entry))) (now (relations .entry)) ⌝ }
+    ensures answer { λ r. ⌜ r ≡ evaluation (now (alphabet .entry)) (now (automaton .entry)) (now (form .entry)) (length (now (relations .entry))) ⌝ }
+    ensures relations { λ _. ⌜ now (relations .exit) ≡ lentAfter (evaluationRefusal (now (alphabet .entry)) (now (automaton .entry)) (now (form .entry)) (length (now (relations .entry)))) (relationsOf (now (alphabet .entry)) (now (automaton .entry)) (now (form .entry))) (now (relations .entry)) ⌝ }
+    ensures runs { λ r. ⌜ RightByRuns (now (alphabet .entry)) (now (automaton .entry)) (now (form .entry)) r (now (relations .exit)) ⌝ }
 {
     let refusal = evaluation_refusal(alphabet, automaton, form, relations.len());
     if refusal != 0 {

@@ -1,7 +1,7 @@
 -- What each call refuses, in document 01's order ("Order: the table's"), and what it answers. A lent slice stands by its length.
 use mathlib.Core.Bool.{Bool}
 use mathlib.Core.List.{List, [], _∷_, _++_}
-use Prim.Native.Nat.{ℕ, zero, suc, _*_, _-_, _^_, _%_}
+use Prim.Native.Nat.{ℕ, zero, suc, _*_, _-_, _^_}
 use lib.Dec.{leb, ltb, eqb}
 use lib.ListN.{length, getD, drop}
 use Rattle.terms.specs.Test.{any, tabulate, joined}
@@ -13,7 +13,7 @@ use Rattle.terms.specs.Relation.{relationAt}
 use Rattle.terms.specs.Form.{Rule, Value, valueAt}
 use Rattle.terms.specs.Sheet.{nodesOf, transitionsOf, wrapped}
 use Rattle.terms.specs.Check.{alphabetRefusal, automatonRefusal, treeRefusal, sheetRefusal, mostNodes}
-use Rattle.terms.specs.FormBytes.{ruleCount, startOf, formLength, formRules, formTree, formRefusal}
+use Rattle.terms.specs.FormBytes.{ruleCount, formLength, formRules, formTree, formRefusal}
 use Rattle.terms.specs.Count.{ownNodes, nodesBefore, sizeOf, capped}
 
 -- Lent slices.
@@ -60,13 +60,13 @@ evaluationRefusal alphabet automaton form numbers = first (
     ∷ 19 when (ltb numbers (ruleCount form))
     ∷ [])
 
--- the relations that evaluation ends with: entry i is that of rule i (01 Mask from the form)
+-- the relations that evaluation ends with: entry i is that of what rule i derives (01 Mask from the form)
 unfoldable pub relationsOf : List ℕ → List ℕ → List ℕ → List ℕ
 relationsOf alphabet automaton form = tabulate (ruleCount form) (relationAt (transitionsOf alphabet automaton) (formRules alphabet form))
 
--- the mask that evaluation answers: bits 0 to 7 of the start's entry (01 Mask from the form)
+-- the mask that evaluation answers: that of the form's tree (01 Mask from the form)
 unfoldable pub formMask : List ℕ → List ℕ → List ℕ → ℕ
-formMask alphabet automaton form = relationAt (transitionsOf alphabet automaton) (formRules alphabet form) (startOf form) % 2 ^ 8
+formMask alphabet automaton form = mask (transitionsOf alphabet automaton) (formTree alphabet form)
 
 -- how many counts a rule has (01 Unfolding)
 abbrev pub countsPerRule : ℕ

@@ -1,13 +1,11 @@
 -- Demand 3: one claim about a sheet and form making, evaluation, unfolding and the plain walk in turn (document 01, "Unfolding").
-use mathlib.Core.Logic.{_↔_}
 use mathlib.Core.Path.{_≡_}
-use mathlib.Core.Bool.{true}
 use mathlib.Core.List.{List}
 use Prim.Native.Nat.{ℕ, _*_, _≤_}
 use Rattle.terms.specs.Tree.{preorder}
-use Rattle.terms.specs.Automaton.{Run, has}
 use Rattle.terms.specs.Sheet.{alphabetOf, automatonOf, nodesOf, transitionsOf, sheetTree}
 use Rattle.terms.specs.FormBytes.{ruleCount, formLength, formTree, formRefusal}
+use Rattle.terms.specs.Runs.{TreeRuns}
 use Rattle.terms.specs.Count.{sizeOf}
 use Rattle.terms.specs.Calls.{rulesAsked, makingRefusal, evaluationRefusal, formMask, countsPerRule, unfoldingRefusal, mostWalked, walkRefusal, walkMask}
 
@@ -19,7 +17,7 @@ pub record FormOfSheet (sheet form : List ℕ) : Type 0 where
 
 -- the mask has bit q exactly where a run of the sheet's automaton on the sheet's tree ends in q at the root (01 Derived tree and run)
 abbrev pub MaskOfRuns : List ℕ → ℕ → Type 0
-MaskOfRuns sheet mask = (q : ℕ) → (has mask q ≡ true) ↔ Run (transitionsOf (alphabetOf sheet) (automatonOf sheet)) (sheetTree sheet) q
+MaskOfRuns sheet mask = TreeRuns (transitionsOf (alphabetOf sheet) (automatonOf sheet)) (sheetTree sheet) mask
 
 -- the claim about a sheet and its form, on the definitions alone: what the calls refuse and answer, however long the slices that are lent beyond what is asked (01 Unfolding)
 pub record Demand3 (sheet form : List ℕ) : Type 0 where

@@ -1,9 +1,12 @@
 -- `evaluation::evaluate::evaluate_checked` meets its contract: the form is parted, the slice has the entries of its table, and the answer is the low byte of the start's.
-use mathlib.Core.Path.{_≡_, _∙_}
+use mathlib.Core.Path.{_≡_, ap, _∙_}
+use mathlib.Core.List.{List}
+use Prim.Native.Nat.{ℕ}
 use lib.ListN.{length}
 use denote.Ref.{now}
 use borrow.Author.Needs.{needs}
 use Rattle.terms.specs.FormBytes.{tableCount}
+use Rattle.terms.specs.Calls.{lentAfter}
 use Rattle.forms.specs.Private.Table.{ValidTable}
 use Rattle.forms.proofs.Rules.{head-long, parted}
 use Rattle.evaluation.proofs.Passed.{EvaluationPassed, evaluation-passed}
@@ -54,10 +57,9 @@ returns c =
     let call = c .before .before .before .before in
     let start = call .before .before in
     let parted = start .before .before in
-    let p = checked (parted .before) .valid in
-    let t = parted .table-of .ensures in
-    let written = call .write-relations .ensures in
-    (c .states-of .ensures ∙ start-mask _ _ _ p _ t _ _ written _ (start .start-of .ensures), form-entries _ _ _ p _ t _ _ written)
+    let p = checked (parted .before) in
+    let written = call .write-relations .ensures ∙ ap (λ (xs : List ℕ). lentAfter 0 xs (now (begin (parted .before) .args .relations))) (form-entries p _ (parted .table-of .ensures)) in
+    (c .states-of .ensures ∙ start-mask p _ _ written _ (start .start-of .ensures), written)
 
 pub evaluate-checked-spec : {M : Type 1} → statement M
 evaluate-checked-spec =

@@ -8,7 +8,7 @@ use denote.Ref.{now}
 use borrow.Author.Needs.{needs}
 use Rattle.terms.specs.Test.{tabulate}
 use Rattle.terms.specs.FormBytes.{tableCount}
-use Rattle.terms.proofs.Sheet.Automaton.{automaton-passed}
+use Rattle.terms.proofs.Sheet.Automaton.{automaton-passed, automaton-small}
 use Rattle.evaluation.proofs.Entries.{entryAt, entry-next, entries-whole}
 use Rattle.evaluation.proofs.evaluate.write_relations.Statement.{statement}
 use Rattle.evaluation.proofs.evaluate.write_relations.Tie as tie
@@ -84,7 +84,8 @@ loop-again : tie.Need-loop-again Inv-loop μ-loop
 loop-again c =
     let l = turn (c .before) in
     let (rule, _, place) = within c in
-    (entry-next _ _ _ (entry (l .before) .pre .0) _ rule _ _ _ place (l .loop .inv .0) (c .relation-of .ensures), omega arith, simp length-set (l .loop .inv .2))
+    let (v, a, n, room) = entry (l .before) .pre in
+    (entry-next _ _ _ (automaton-small _ _ (automaton-passed _ _ a)) v _ rule _ _ _ place (l .loop .inv .0) (c .relation-of .ensures), omega arith, simp length-set (l .loop .inv .2))
 
 same-length : tie.Need-same-length Inv-loop μ-loop
 same-length c = omega arith
@@ -92,8 +93,7 @@ same-length c = omega arith
 returns : tie.Need-returns Inv-loop μ-loop
 returns c =
     let l = c .before in
-    let (v, a, n, room) = entry (l .before) .pre in
-    entries-whole _ _ _ v _ (omega (arith, n)) _ _ (l .loop .inv .0)
+    entries-whole _ _ _ _ (omega (arith, entry (l .before) .pre .2)) _ _ (l .loop .inv .0)
 
 pub write-relations-spec : {M : Type 1} → statement M
 write-relations-spec =
