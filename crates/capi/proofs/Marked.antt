@@ -63,7 +63,7 @@ module _ (tally sheet form relations : List ℕ) (v m : ℕ) where
   -- a list that is too short
   pub short-marked : length tally < 3 → Marked 19 tally form relations v m
   unfolding markRefusal tallyLeft
-  short-marked h = rw (lt-ltb (length tally) 3 h) (refl, (refl, (record { written = 0; formed = refl; evaluated = refl }, (refl, refl))))
+  short-marked h = rw (lt-ltb (length tally) 3 h) (refl, (refl, (record { formed = refl; evaluated = refl; made = λ z. absurd (omega arith) }, (refl, refl))))
 
   -- an answer of marking
   pub marked : 3 ≤ length tally → (tally′ form′ relations′ : List ℕ) (r e : Mark) → r ≡ marking (tallyOf tally) sheet (length form) (length relations)

@@ -1,21 +1,20 @@
 -- Demand 3 follows from what the four calls answer and leave.
 use mathlib.Core.Path.{_≡_, refl, ap, subst, _∙_}
 use mathlib.Core.List.{List}
-use Prim.Native.Nat.{ℕ, _+_, _*_, _≤_}
-use native.Mathlib.Omega.{arith}
+use Prim.Native.Nat.{ℕ, _*_, _≤_}
 use lib.ListN.{length, take}
 use Rattle.terms.specs.Tree.{Tree, preorder}
-use Rattle.terms.specs.Sheet.{alphabetOf, automatonOf, nodesOf, sheetTree}
+use Rattle.terms.specs.Sheet.{alphabetOf, automatonOf, sheetTree}
 use Rattle.terms.specs.Check.{sheetRefusal}
-use Rattle.terms.specs.FormBytes.{ruleCount}
+use Rattle.terms.specs.FormBytes.{ruleCount, formLength}
 use Rattle.terms.specs.Count.{sizeOf}
-use Rattle.terms.specs.Calls.{makingRefusal, formMask, mostWalked}
+use Rattle.terms.specs.Calls.{rulesAsked, formMask, mostWalked}
 use Rattle.terms.specs.Demand.{FormOfSheet, Demand3}
 use Rattle.terms.proofs.Demand.{making-passes, form-meets}
-use Rattle.making.specs.Making.{refusalOf, Leaves}
+use Rattle.making.specs.Making.{Makes}
 use Rattle.making.specs.declared.Making.{Making}
 use Rattle.making.specs.declared.Making.the-variants as making
-use Rattle.making.proofs.Formed.{form-of}
+use Rattle.making.proofs.Formed.{wrote, none-refused}
 use Rattle.evaluation.specs.Evaluation.{evaluationAfter}
 use Rattle.unfolding.specs.declared.unfold.Unfolding.{Unfolding}
 use Rattle.unfolding.specs.declared.unfold.Unfolding.the-variants.{Written}
@@ -24,7 +23,7 @@ use Rattle.certificate.specs.Certify.{Slices, Walked, Ran, Follows, Call
 use Rattle.certificate.specs.declared.certify.Answers.{Answers}
 use Rattle.unfolding.proofs.Unfolded.{unfolds, tree-first}
 
-module _ (sheet : List ℕ) (answers : Answers) (form : List ℕ) (lent : Slices) (form′ : List ℕ) (left : Slices) (passes : sheetRefusal sheet ≡ 0) (room : 4 + 192 * nodesOf sheet ≤ length form) where
+module _ (sheet : List ℕ) (answers : Answers) (form : List ℕ) (lent : Slices) (form′ : List ℕ) (left : Slices) (passes : sheetRefusal sheet ≡ 0) (room : formLength (rulesAsked sheet) ≤ length form) where
   abbrev alphabet : List ℕ
   alphabet = alphabetOf sheet
 
@@ -65,10 +64,9 @@ module _ (sheet : List ℕ) (answers : Answers) (form : List ℕ) (lent : Slices
       walked = same-mask;
     }
 
-  by-answer : (m : Making) → answers .made ≡ m → refusalOf m ≡ makingRefusal sheet (length form) → Leaves sheet m form′ form
-      → Follows sheet m form′ answers lent left → Certificate sheet answers lent form′ left
-  by-answer (making.Refused n) e r l f = absurd (omega (arith, r, l .0, making-passes sheet passes (length form) (omega arith)))
-  by-answer (making.Written n) e r l f = certificate n e (form-of sheet l) f
+  by-answer : (m : Making) → answers .made ≡ m → Makes sheet m form′ form → Follows sheet m form′ answers lent left → Certificate sheet answers lent form′ left
+  by-answer (making.Refused n) e k f = absurd (none-refused k refl (making-passes sheet passes (length form) room))
+  by-answer (making.Written n) e k f = certificate n e (wrote k refl .formed) f
 
   pub calls-certify : CallsMade sheet answers form lent form′ left → Certificate sheet answers lent form′ left
-  calls-certify c = by-answer (answers .made) refl (c .refused) (c .formed) (c .followed)
+  calls-certify c = by-answer (answers .made) refl (c .makes) (c .followed)

@@ -2,12 +2,10 @@
 use mathlib.Core.Path.{_≡_, refl, sym, ap, subst, _∙_}
 use mathlib.Core.List.{List}
 use Prim.Native.Nat.{ℕ, _≤_}
-use native.Mathlib.Omega.{arith}
 use lib.ListN.{length, take}
 use lib.Seq.{length-take-le}
 use Rattle.terms.specs.Sheet.{alphabetOf, automatonOf}
-use Rattle.terms.specs.Calls.{makingRefusal}
-use Rattle.making.specs.Making.{refusalOf, Leaves}
+use Rattle.making.specs.Making.{Makes}
 use Rattle.making.specs.declared.Making.{Making}
 use Rattle.making.specs.declared.Making.the-variants.{Refused, Written}
 use Rattle.evaluation.specs.declared.evaluate.Evaluation.the-variants as evaluating
@@ -16,17 +14,12 @@ use Rattle.plain_walk.specs.declared.answer.Walk.the-variants as walk
 use Rattle.certificate.specs.Certify.{Slices, Ran, Follows, CallsMade}
 use Rattle.certificate.specs.declared.certify.Answers.{Answers}
 
--- what was written lies in the slice
-pub written-within : {m : Making} {n : ℕ} (sheet form form′ : List ℕ) → m ≡ Written n → Leaves sheet m form′ form → length form′ ≡ length form → n ≤ length form′
-written-within sheet form form′ e l k = omega (arith, subst (λ (x : Making). Leaves sheet x form′ form) e l .within, k)
-
-module _ {m : Making} {n : ℕ} (sheet form form′ : List ℕ) (refused : refusalOf m ≡ makingRefusal sheet (length form)) (formed : Leaves sheet m form′ form) where
+module _ {m : Making} {n : ℕ} {sheet form form′ : List ℕ} (makes : Makes sheet m form′ form) where
   -- a refusal is handed on
   pub handed-on : m ≡ Refused n → (lent : Slices)
       → CallsMade sheet (record { made = Refused n; evaluated = evaluating.Refused n; unfolded = nodes.Refused n; walked = walk.Refused n }) form lent form′ lent
   handed-on e lent = record {
-    refused = subst (λ (x : Making). refusalOf x ≡ makingRefusal sheet (length form)) e refused;
-    formed = subst (λ (x : Making). Leaves sheet x form′ form) e formed;
+    makes = subst (λ (x : Making). Makes sheet x form′ form) e makes;
     followed = record { evaluated = refl; relations = refl; unfolded = refl; counts = refl; tree = refl; walked = refl; masks = refl };
   }
 
@@ -37,7 +30,6 @@ module _ {m : Making} {n : ℕ} (sheet form form′ : List ℕ) (refused : refus
       let made : m ≡ answers .made = e ∙ sym (ran .made ∙ ap Written (length-take-le n form′ within)) in
       let follows : Follows sheet (Written n) form′ answers lent left = rw (a, b) at ran in
       record {
-        refused = subst (λ (x : Making). refusalOf x ≡ makingRefusal sheet (length form)) made refused;
-        formed = subst (λ (x : Making). Leaves sheet x form′ form) made formed;
+        makes = subst (λ (x : Making). Makes sheet x form′ form) made makes;
         followed = subst (λ (x : Making). Follows sheet x form′ answers lent left) (sym e ∙ made) follows;
       }

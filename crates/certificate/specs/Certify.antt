@@ -1,16 +1,16 @@
 -- What the four calls of demand 3 answer and leave, and what is claimed of them (document 01, "Unfolding").
 use mathlib.Core.Path.{_≡_}
 use mathlib.Core.List.{List}
-use Prim.Native.Nat.{ℕ, _+_, _*_, _≤_}
+use Prim.Native.Nat.{ℕ, _*_, _≤_}
 use lib.ListN.{length, take}
 use Rattle.terms.specs.Tree.{preorder}
-use Rattle.terms.specs.Sheet.{alphabetOf, automatonOf, nodesOf, sheetTree}
+use Rattle.terms.specs.Sheet.{alphabetOf, automatonOf, sheetTree}
 use Rattle.terms.specs.Check.{sheetRefusal}
-use Rattle.terms.specs.FormBytes.{ruleCount}
+use Rattle.terms.specs.FormBytes.{ruleCount, formLength}
 use Rattle.terms.specs.Count.{sizeOf}
-use Rattle.terms.specs.Calls.{lentAfter, makingRefusal, evaluationRefusal, relationsOf, mostWalked, walkRefusal, walkMasks}
+use Rattle.terms.specs.Calls.{lentAfter, rulesAsked, evaluationRefusal, relationsOf, mostWalked, walkRefusal, walkMasks}
 use Rattle.terms.specs.Demand.{FormOfSheet, MaskOfRuns}
-use Rattle.making.specs.Making.{refusalOf, Leaves}
+use Rattle.making.specs.Making.{Makes}
 use Rattle.making.specs.declared.Making.{Making}
 use Rattle.making.specs.declared.Making.the-variants as making
 use Rattle.evaluation.specs.Evaluation.{evaluation}
@@ -68,8 +68,7 @@ Follows sheet (making.Written n) form answers lent left = Ran (alphabetOf sheet)
 
 -- the four calls (01 Unfolding)
 pub record CallsMade (sheet : List ℕ) (answers : Answers) (form : List ℕ) (lent : Slices) (form′ : List ℕ) (left : Slices) : Type 0 where
-  pub refused : refusalOf (answers .made) ≡ makingRefusal sheet (length form)
-  pub formed : Leaves sheet (answers .made) form′ form
+  pub makes : Makes sheet (answers .made) form′ form
   pub followed : Follows sheet (answers .made) form′ answers lent left
 
 -- What is claimed of them: demand 3.
@@ -91,6 +90,6 @@ pub record Certificate (sheet : List ℕ) (answers : Answers) (lent : Slices) (f
   pub walked : 2 * ruleCount (take written form′) ≤ length (lent .counts) → sizeOf (sheetTree sheet) ≤ length (lent .tree)
       → sizeOf (sheetTree sheet) ≤ mostWalked → sizeOf (sheetTree sheet) ≤ length (lent .masks) → answers .walked ≡ walk.Mask mask
 
--- demand 3, for every byte string that refusals 1 to 16 let through, whatever the slices held before (01 Unfolding)
+-- demand 3, for every byte string that refusals 1 to 16 let through, with 4 + 192 · G form bytes lent, whatever the slices held before (01 Unfolding)
 abbrev pub Certified : List ℕ → Answers → List ℕ → Slices → List ℕ → Slices → Type 0
-Certified sheet answers form lent form′ left = sheetRefusal sheet ≡ 0 → 4 + 192 * nodesOf sheet ≤ length form → Certificate sheet answers lent form′ left
+Certified sheet answers form lent form′ left = sheetRefusal sheet ≡ 0 → formLength (rulesAsked sheet) ≤ length form → Certificate sheet answers lent form′ left

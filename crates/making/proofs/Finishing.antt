@@ -3,7 +3,7 @@ use mathlib.Core.Path.{_≡_, sym, ap, _∙_}
 use mathlib.Core.List.{List}
 use Prim.Native.Nat.{ℕ, _+_, _≤_, _<_}
 use native.Mathlib.Omega.{arith}
-use lib.ListN.{length, getD, take, drop, length-drop}
+use lib.ListN.{length, getD, take, drop, length-drop, take-append-drop}
 use lib.Seq.{length-take-le, getD-take, getD-drop, ext-getD}
 use Rattle.terms.specs.Grammar.{Rule}
 use Rattle.terms.specs.Form.{Rule as FormRule}
@@ -12,11 +12,11 @@ use Rattle.terms.specs.Sheet.{rulesBody}
 use Rattle.terms.proofs.Sheet.Passed.{alphabet-passed}
 use Rattle.terms.proofs.Form.Written.{only-bytes}
 use Rattle.skeletons.specs.Form.{madeForm}
-use Rattle.skeletons.proofs.Result.{scanned-form, form-linear}
+use Rattle.skeletons.proofs.Result.{scanned-form}
 use Rattle.skeletons.proofs.Bytes.{made-from, made-bytes}
 use Rattle.cells.specs.Bytes.{Holds, HeadWritten}
 use Rattle.right_sides.specs.Rules.{Grammar, modelOf, RulesMade}
-use Rattle.making.specs.Making.{FormWritten}
+use Rattle.making.specs.Private.Read.{FormWritten}
 use Rattle.right_sides.specs.declared.rules.Whole.{Whole}
 use Rattle.cells.proofs.Held.{held-kept}
 
@@ -29,7 +29,7 @@ module _ {form alphabet body : List ℕ} {count : ℕ} (g : Grammar form alphabe
 
   -- the rules fit the slice
   fits : ruleOffset (length rules) ≤ length form
-  fits = omega (arith, form-linear alphabet grammar (g .proper) (scanned-form alphabet grammar (g .proper) .2), g .room)
+  fits = omega (arith, scanned-form alphabet grammar (g .proper) .2 .few, g .room)
 
   pub head-fits : 4 ≤ length form₁
   head-fits = omega (arith, fits, m .long)
@@ -63,13 +63,11 @@ module _ {form alphabet body : List ℕ} {count : ℕ} (g : Grammar form alphabe
     pub form-written : FormWritten alphabet grammar (ruleOffset (w .count .0)) form₂ form
     form-written =
         let b = made-bytes alphabet grammar (alphabet-passed alphabet (g .alphabet)) (g .proper) (g .few) in
+        let long : n ≡ length (madeForm alphabet grammar) = sym (length-take-le n form₂ (omega (arith, long₂, fits))) ∙ ap length bytes in
         rw (m .counted)
         record {
-          bytes = bytes;
-          accepted = rw bytes (b .accepted);
-          tree = rw bytes (b .tree);
-          few = rw bytes (b .few);
-          linear = rw bytes (b .linear);
+          long = long;
+          bytes = sym (take-append-drop n form₂) ∙ rw (bytes, kept, ← long);
+          holds = record { accepted = b .accepted; tree = b .tree; few = b .few; linear = b .linear };
           within = fits;
-          kept = kept;
         }

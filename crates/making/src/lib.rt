@@ -13,11 +13,8 @@ ghost use lib.ListN.{length};
 ghost use Rattle.terms.specs.Calls.{makingRefusal};
 ghost use Rattle.terms.specs.Sheet.{alphabetOf, rulesBody, rulesOf};
 ghost use Rattle.right_sides.specs.Rules.{Grammar};
-ghost use Rattle.making.specs.Making.{FormWritten, refusalOf, Leaves};
-ghost use Rattle.making.specs.Private.Read.{ReadWithRoom};
-
-// How many rules of a form a node of a sheet may take.
-pub const RULES_FOR_NODE: usize = 16;
+ghost use Rattle.making.specs.Making.{makingOf, formLeft, FormMade};
+ghost use Rattle.making.specs.Private.Read.{ReadWithRoom, FormWritten};
 
 // What making a form answers: the refusal, or the length of the form.
 pub enum Making {
@@ -55,13 +52,14 @@ pub fn make_read(sheet: &[u8], layout: Layout, form: &mut [u8]) -> usize
 
 // A form of the sheet, into a lent slice.
 pub fn make_form(sheet: &[u8], form: &mut [u8]) -> Making
-    ensures { λ r. ⌜ refusalOf r ≡ makingRefusal (now (sheet .entry)) (length (now (form .entry))) ⌝ }
-    ensures { λ r. ⌜ Leaves (now (sheet .entry)) r (now (form .exit)) (now (form .entry)) ⌝ }
+    ensures answer { λ r. ⌜ r ≡ makingOf (now (sheet .entry)) (length (now (form .entry))) ⌝ }
+    ensures slice { λ _. ⌜ now (form .exit) ≡ formLeft (now (sheet .entry)) (now (form .entry)) ⌝ }
+    ensures form { λ _. ⌜ (makingRefusal (now (sheet .entry)) (length (now (form .entry))) ≡ 0 → FormMade (now (sheet .entry)) (length (now (form .entry)))) ⌝ }
 {
     match read_sheet(sheet) {
         Reading::Refused(n) => Making::Refused(n),
         Reading::Sheet(layout) => {
-            if form.len() < HEAD + RULE * (RULES_FOR_NODE * layout.nodes) {
+            if form.len() < HEAD + RULE * layout.asked {
                 return Making::Refused(17);
             }
             Making::Written(make_read(sheet, layout, form))

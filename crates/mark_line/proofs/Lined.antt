@@ -2,20 +2,20 @@
 use mathlib.Core.Path.{_≡_, refl, sym, ap, subst, _∙_}
 use mathlib.Core.Bool.{Bool, true, false}
 use mathlib.Core.List.{List, [], _∷_}
-use Prim.Native.Nat.{ℕ, zero, suc, _*_}
+use Prim.Native.Nat.{ℕ, zero, suc}
 use native.Mathlib.Omega.{arith}
 use borrow.Author.Tests.{le-ltb}
 use lib.ListN.{length, replicate, length-replicate}
 use Rattle.terms.specs.Test.{any}
-use Rattle.terms.specs.Sheet.{body, alphabetOf, rulesOf, nodesOf, Verdict, accepted, declined, sheetTree, sheetMask, sheetVerdict}
+use Rattle.terms.specs.Sheet.{Verdict, accepted, declined, sheetTree, sheetMask, sheetVerdict}
 use Rattle.terms.specs.Check.{sheetRefusal}
-use Rattle.terms.specs.FormBytes.{ruleOffset}
+use Rattle.terms.specs.FormBytes.{formLength, mostFormRules}
 use Rattle.terms.specs.Count.{sizeOf, capped}
-use Rattle.terms.specs.Calls.{makingRefusal, markingRefusal}
+use Rattle.terms.specs.Calls.{rulesAsked, makingRefusal, markingRefusal}
 use Rattle.terms.proofs.Test.{of-true}
-use Rattle.terms.proofs.Sheet.Grammar.{rules-passed}
-use Rattle.terms.proofs.Sheet.Passed.{sheet-passed}
-use Rattle.making.proofs.Formed.{form-of}
+use Rattle.sheets.proofs.Asked.{asked-small}
+use Rattle.making.specs.Making.{formOf}
+use Rattle.making.proofs.Formed.{form-of, written-first}
 use Rattle.marking.specs.declared.answer.Mark.{Mark}
 use Rattle.marking.specs.declared.answer.Mark.the-variants as mark
 use Rattle.marking.specs.Marking.{orVerdict, SlicesLeft}
@@ -28,14 +28,14 @@ use Rattle.mark_line.specs.declared.line.Line.the-variants.{Refused, Acc
 abbrev pub marked : List ℕ → ℕ → ℕ → ℕ
 marked sheet room numbers = markingRefusal (0 ∷ 0 ∷ 0 ∷ []) sheet room numbers
 
-room-enough : (sheet : List ℕ) (room numbers : ℕ) → room ≡ 24580 → numbers ≡ 2048 → marked sheet room numbers ≡ sheetRefusal sheet
-unfolding any markingRefusal makingRefusal nodesOf rulesOf
+room-enough : (sheet : List ℕ) (room numbers : ℕ) → room ≡ formLength mostFormRules → numbers ≡ mostFormRules → marked sheet room numbers ≡ sheetRefusal sheet
+unfolding any markingRefusal makingRefusal
 room-enough sheet room numbers a b = go (sheetRefusal sheet) refl
   where
     go : (n : ℕ) → sheetRefusal sheet ≡ n → marked sheet room numbers ≡ n
     go zero e =
-        let few = rules-passed (alphabetOf sheet) (body sheet 1) (sheet-passed sheet e .rules) .few-nodes in
-        rw (e, le-ltb room (ruleOffset (16 * nodesOf sheet)) (omega arith), le-ltb numbers (16 * nodesOf sheet) (omega arith))
+        let small = asked-small sheet e in
+        rw (e, le-ltb room (formLength (rulesAsked sheet)) (omega arith), le-ltb numbers (rulesAsked sheet) (omega arith))
     go (suc n) e = rw e
 
 -- an answer of marking as a line, with a size
@@ -61,17 +61,17 @@ not-refused (suc k) v mask r e h = absurd (of-true false (ap answered e ∙ h))
 
 -- the slices as they are lent, with room for the largest sheet
 abbrev form : List ℕ
-form = replicate 24580 0
+form = replicate (formLength mostFormRules) 0
 
 abbrev relations : List ℕ
-relations = replicate 2048 0
+relations = replicate mostFormRules 0
 
 module _ (sheet : List ℕ) (r : Mark) (answer : orVerdict (marked sheet (length form) (length relations)) (sheetVerdict sheet) (sheetMask sheet) ≡ r) where
   abbrev refused : ℕ
   refused = marked sheet (length form) (length relations)
 
   only-sheet : refused ≡ sheetRefusal sheet
-  only-sheet = room-enough sheet (length form) (length relations) (length-replicate {A = ℕ} 24580 0) (length-replicate {A = ℕ} 2048 0)
+  only-sheet = room-enough sheet (length form) (length relations) (length-replicate {A = ℕ} (formLength mostFormRules) 0) (length-replicate {A = ℕ} mostFormRules 0)
 
   pub lined : line r (capped (sizeOf (sheetTree sheet))) ≡ lineOf sheet
   lined =
@@ -86,7 +86,7 @@ module _ (sheet : List ℕ) (r : Mark) (answer : orVerdict (marked sheet (length
       let left = subst (λ (k : ℕ). SlicesLeft k sheet form′ form relations′ relations) none s in
       record {
         passes = sym only-sheet ∙ none;
-        written = left .written;
-        formed = form-of sheet (left .formed);
-        within = omega (arith, left .formed .within, same);
+        written = length (formOf sheet);
+        formed = rw (written-first (formOf sheet) form refl (left .formed)) (form-of sheet (left .made refl .holds));
+        within = omega (arith, left .made refl .within, same);
       }

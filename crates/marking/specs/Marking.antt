@@ -2,10 +2,10 @@
 use mathlib.Core.Path.{_≡_}
 use mathlib.Core.List.{List}
 use Prim.Native.Nat.{ℕ, zero, suc}
-use lib.ListN.{take}
-use Rattle.terms.specs.Sheet.{alphabetOf, rulesOf, automatonOf, Verdict, accepted, declined, sheetMask, sheetVerdict}
+use lib.ListN.{length}
+use Rattle.terms.specs.Sheet.{alphabetOf, automatonOf, Verdict, accepted, declined, sheetMask, sheetVerdict}
 use Rattle.terms.specs.Calls.{lentAfter, markingRefusal, relationsOf}
-use Rattle.making.specs.Making.{FormWritten}
+use Rattle.making.specs.Making.{formOf, FormMade}
 use Rattle.marking.specs.declared.answer.Mark.{Mark}
 use Rattle.marking.specs.declared.answer.Mark.the-variants.{Refused, Accepted, Declined}
 
@@ -21,13 +21,8 @@ markOf counts sheet room numbers = orVerdict (markingRefusal counts sheet room n
 
 -- Lent slices.
 
--- the form's slice after marking: as it was where it refuses, else with a form of the sheet in so many bytes (01 Size, label, wrap, tally)
-abbrev pub FormLeft : ℕ → List ℕ → ℕ → List ℕ → List ℕ → Type 0
-FormLeft zero sheet written exit entry = FormWritten (alphabetOf sheet) (rulesOf sheet) written exit entry
-FormLeft (suc n) sheet written exit entry = exit ≡ entry
-
--- both slices after marking: as form making, which writes so many bytes, and evaluation of those bytes leave them (01 Size, label, wrap, tally)
+-- both slices after marking: as form making and evaluation of the form leave them, and what holds of the form (01 Size, label, wrap, tally)
 pub record SlicesLeft (refusal : ℕ) (sheet form′ form relations′ relations : List ℕ) : Type 0 where
-  pub written : ℕ
-  pub formed : FormLeft refusal sheet written form′ form
-  pub evaluated : relations′ ≡ lentAfter refusal (relationsOf (alphabetOf sheet) (automatonOf sheet) (take written form′)) relations
+  pub formed : form′ ≡ lentAfter refusal (formOf sheet) form
+  pub evaluated : relations′ ≡ lentAfter refusal (relationsOf (alphabetOf sheet) (automatonOf sheet) (formOf sheet)) relations
+  pub made : refusal ≡ 0 → FormMade sheet (length form)

@@ -4,14 +4,13 @@ use checks::limits::CONTENTS;
 use evaluation::evaluate::evaluate_checked;
 use form_bytes::layout::HEAD;
 use form_bytes::layout::RULE;
-use making::RULES_FOR_NODE;
 use making::make_read;
 use sheets::sheet::Layout;
 use sheets::sheet::Reading;
 use sheets::sheet::read_sheet;
 ghost use mathlib.Core.Path.{_≡_};
 ghost use mathlib.Core.List.{[]};
-ghost use Prim.Native.Nat.{_*_, _≤_};
+ghost use Prim.Native.Nat.{_≤_};
 ghost use lib.ListN.{length};
 ghost use Rattle.terms.specs.Sheet.{finals, sheetMask, sheetVerdict};
 ghost use Rattle.terms.specs.Calls.{markingRefusal};
@@ -32,7 +31,7 @@ fn verdict(automaton: &[u8], mask: u8) -> Mark
 
 // Marks a sheet that was read, into slices with room for its form and its relations.
 fn mark_read(sheet: &[u8], layout: Layout, form: &mut [u8], relations: &mut [u64]) -> Mark
-    requires { ⌜ ReadWithRoom (now sheet) layout (length (now form)) × (16 * layout .nodes ≤ length (now relations)) ⌝ }
+    requires { ⌜ ReadWithRoom (now sheet) layout (length (now form)) × (layout .asked ≤ length (now relations)) ⌝ }
     ensures { λ r. ⌜ r ≡ orVerdict 0 (sheetVerdict (now (sheet .entry))) (sheetMask (now (sheet .entry))) ⌝ }
     ensures { λ _. ⌜ SlicesLeft 0 (now (sheet .entry)) (now (form .exit)) (now (form .entry)) (now (relations .exit)) (now (relations .entry)) ⌝ }
 {
@@ -56,11 +55,10 @@ pub fn mark_sheet(sheet: &[u8], form: &mut [u8], relations: &mut [u64]) -> Mark
     match read_sheet(sheet) {
         Reading::Refused(n) => Mark::Refused(n),
         Reading::Sheet(layout) => {
-            let asked = RULES_FOR_NODE * layout.nodes;
-            if form.len() < HEAD + RULE * asked {
+            if form.len() < HEAD + RULE * layout.asked {
                 return Mark::Refused(17);
             }
-            if relations.len() < asked {
+            if relations.len() < layout.asked {
                 return Mark::Refused(19);
             }
             mark_read(sheet, layout, form, relations)

@@ -4,14 +4,15 @@ use mathlib.Core.List.{List, _++_}
 use Prim.Native.Nat.{ℕ, zero, suc, _+_, _≤_}
 use native.Mathlib.Omega.{arith}
 use lib.ListN.{length, take, drop, length-append}
-use Rattle.terms.specs.Calls.{lentAfter, makingRefusal, wrapRefusal}
+use Rattle.terms.specs.Calls.{lentAfter, wrapRefusal}
 use Rattle.terms.specs.Sheet.{wrapped}
 use Rattle.wrapping.specs.Wrap.{wrapping, wrappingAfter}
 use Rattle.wrapping.specs.declared.wrap.Wrapping.{Wrapping}
 use Rattle.wrapping.specs.declared.wrap.Wrapping.the-variants as wrap
-use Rattle.making.specs.Making.{refusalOf, Leaves}
+use Rattle.making.specs.Making.{Makes}
 use Rattle.making.specs.declared.Making.{Making}
 use Rattle.making.specs.declared.Making.the-variants as making
+use Rattle.making.proofs.Formed.{wrote}
 use Rattle.unfolding.specs.declared.unfold.Unfolding.{Unfolding}
 use Rattle.unfolding.specs.declared.unfold.Unfolding.the-variants as nodes
 use Rattle.unfolding.specs.Unfolding.{Unfolded}
@@ -33,16 +34,15 @@ sheet-within alphabet tree automaton sheet {r} {sheet′} e w = go (wrapRefusal 
 pub form-within : (w : Wrapping) (r : Making) (sheet exit entry : List ℕ) → MadeFrom w sheet r exit entry → length exit ≡ length entry → FormWithin r (length exit)
 form-within w (making.Refused n) sheet exit entry m e = tt
 form-within (wrap.Refused k) (making.Written n) sheet exit entry m e = absurd (let h = m .0 in let z : _≡_ {A = ℕ} 0 1 = cc in omega arith)
-form-within (wrap.Written k) (making.Written n) sheet exit entry m e = omega (arith, m .1 .within, e)
+form-within (wrap.Written k) (making.Written n) sheet exit entry m e = wrote m refl .within
 
 -- form making
 module _ {w : Wrapping} {n : ℕ} (sheet : List ℕ) where
   pub none-made : w ≡ wrap.Refused n → (form : List ℕ) → MadeFrom w sheet (making.Refused n) form form
   none-made e form = rw e (refl, refl)
 
-  pub sheet-made : w ≡ wrap.Written n → (r : Making) (exit entry : List ℕ) → refusalOf r ≡ makingRefusal (take n sheet) (length entry)
-      → Leaves (take n sheet) r exit entry → MadeFrom w sheet r exit entry
-  sheet-made e r exit entry a l = rw e (a, l)
+  pub sheet-made : w ≡ wrap.Written n → (r : Making) (exit entry : List ℕ) → Makes (take n sheet) r exit entry → MadeFrom w sheet r exit entry
+  sheet-made e r exit entry makes = rw e makes
 
 -- unfolding
 module _ (alphabet : List ℕ) {m : Making} {n : ℕ} (form : List ℕ) where

@@ -1,15 +1,15 @@
 -- What wrapping a tree, making the form of what was written and unfolding it answer and leave (document 01, demand 2).
 use mathlib.Core.Path.{_≡_}
 use mathlib.Core.List.{List}
-use Prim.Native.Nat.{ℕ, _+_, _*_, _≤_}
+use Prim.Native.Nat.{ℕ, _*_, _≤_}
 use lib.ListN.{length, take}
 use Rattle.terms.specs.Sheet.{wrapped}
-use Rattle.terms.specs.FormBytes.{ruleCount}
-use Rattle.terms.specs.Calls.{lentAfter, makingRefusal, wrapRefusal}
+use Rattle.terms.specs.FormBytes.{ruleCount, formLength}
+use Rattle.terms.specs.Calls.{lentAfter, rulesAsked, wrapRefusal}
 use Rattle.wrapping.specs.Wrap.{wrapping}
 use Rattle.wrapping.specs.declared.wrap.Wrapping.{Wrapping}
 use Rattle.wrapping.specs.declared.wrap.Wrapping.the-variants as wrap
-use Rattle.making.specs.Making.{refusalOf, Leaves}
+use Rattle.making.specs.Making.{Makes}
 use Rattle.making.specs.declared.Making.{Making}
 use Rattle.making.specs.declared.Making.the-variants as making
 use Rattle.unfolding.specs.declared.unfold.Unfolding.{Unfolding}
@@ -22,7 +22,7 @@ use Rattle.restoring.specs.declared.restore.Restoring.{Restoring}
 -- form making on exactly the bytes that wrap wrote, or wrap's refusal handed on (01 One-hole form)
 abbrev pub MadeFrom : Wrapping → List ℕ → Making → List ℕ → List ℕ → Type 0
 MadeFrom (wrap.Refused n) sheet r exit entry = (r ≡ making.Refused n) × (exit ≡ entry)
-MadeFrom (wrap.Written n) sheet r exit entry = (refusalOf r ≡ makingRefusal (take n sheet) (length entry)) × Leaves (take n sheet) r exit entry
+MadeFrom (wrap.Written n) sheet r exit entry = Makes (take n sheet) r exit entry
 
 -- unfolding of exactly the bytes that form making wrote, or form making's refusal handed on (01 Unfolding)
 abbrev pub UnfoldedFrom : List ℕ → Making → List ℕ → Unfolding → List ℕ → List ℕ → List ℕ → List ℕ → Type 0
@@ -55,7 +55,7 @@ pub record TreeBack (tree : List ℕ) (r : Restoring) (lent left : RestoringSlic
   pub back : 2 * ruleCount (take written (left .form)) ≤ length (lent .counts) → length tree ≤ length (lent .tree)
       → (r .unfolded ≡ nodes.Written (length tree)) × (take (length tree) (left .tree) ≡ tree)
 
--- the last sentence of demand 2, for every alphabet, tree and automaton that wrap does not refuse, whatever the slices held before (01 demand 2)
+-- the last sentence of demand 2, for every alphabet, tree and automaton that wrap does not refuse, with 4 + 192 · G form bytes lent, whatever the slices held before (01 demand 2)
 abbrev pub Restored : List ℕ → List ℕ → List ℕ → Restoring → RestoringSlices → RestoringSlices → Type 0
 Restored alphabet tree automaton r lent left =
-    wrapRefusal alphabet tree automaton (length (lent .sheet)) ≡ 0 → 4 + 192 * length tree ≤ length (lent .form) → TreeBack tree r lent left
+    wrapRefusal alphabet tree automaton (length (lent .sheet)) ≡ 0 → formLength (rulesAsked (wrapped alphabet tree automaton)) ≤ length (lent .form) → TreeBack tree r lent left

@@ -10,7 +10,8 @@ use lib.ListN.{length, getD, drop, take, set, length-drop, length-set}
 use lib.Seq.{drop-cons, getD-drop, drop-drop, drop-set-lt, getD-set-same, take-all}
 use Rattle.terms.specs.Test.{all}
 use Rattle.terms.specs.Tree.{Wholes, exactly, lacking, taking, wholes}
-use Rattle.terms.specs.Grammar.{Name, terminal, nonterminal, parameter, nothing, name, ruleRank, nameRank, rankIn, allowed}
+use Rattle.terms.specs.Grammar.{Name, terminal, nonterminal, parameter, nothing, name, ruleRank, nameRank, rankIn, allowed, sumOver}
+use Rattle.terms.specs.Form.{share}
 use Rattle.terms.specs.Check.{mostRules, mostNodes}
 use Rattle.terms.proofs.Test.{both-0, both-1, is-true}
 use Rattle.terms.proofs.Scan.{wholes-part}
@@ -21,12 +22,12 @@ use Rattle.skeletons.specs.Skeleton.{size, weight}
 use Rattle.cells.specs.Cells.{Stands, Row}
 use Rattle.cells.specs.State.{Room, Grown, Stood}
 use Rattle.contraction.specs.Substitution.{Bounded, StoodRow}
-use Rattle.right_sides.specs.Side.{NodeReady, NodeMade, RightSide, sideMade}
+use Rattle.right_sides.specs.Side.{NodeReady, NodeMade, sideBound, RightSide, sideMade}
 use Rattle.cells.specs.declared.state.Free.{Free}
 use Rattle.cells.specs.declared.state.Made.{Made}
-use Rattle.grammars.specs.Rules.{ruledBy, HasRank}
-use Rattle.grammars.proofs.Rule.{rank-known}
-use Rattle.grammars.proofs.Node as node
+use Rattle.nodes.specs.Nodes.{ruledBy, HasRank}
+use Rattle.nodes.proofs.Node.{rank-known}
+use Rattle.nodes.proofs.Node as node
 use Rattle.cells.proofs.Standing.{row-at}
 use Rattle.cells.proofs.Adding.{grown-none, grown-then, grown-less, grown-within, grown-stands, grown-rows, room-less}
 
@@ -79,6 +80,12 @@ all-at p [] h j l = absurd (omega arith)
 all-at p (x ∷ xs) h zero l = both-0 (p x) (all p xs) h
 all-at p (x ∷ xs) h (suc j) l = all-at p xs (both-1 (p x) (all p xs) h) j (omega arith)
 
+-- the nodes from a place on add no more than all of them
+sum-later : (h : Name → ℕ) (i : ℕ) (xs : List ℕ) → sumOver h (drop i xs) ≤ sumOver h xs
+sum-later h zero xs = omega arith
+sum-later h (suc i) [] = omega arith
+sum-later h (suc i) (x ∷ xs) = omega (arith, sum-later h i xs)
+
 module _ {form₀ space₀ : List ℕ} {free₀ : Free} {alphabet ranks roots nodes : List ℕ} (g : RightSide form₀ space₀ free₀ alphabet ranks roots nodes) where
   abbrev rankOf : ℕ → ℕ
   rankOf = rankIn alphabet (g .rules)
@@ -94,7 +101,7 @@ module _ {form₀ space₀ : List ℕ} {free₀ : Free} {alphabet ranks roots no
     pub depth : size (after left .made) + low ≡ mostNodes
     pub whole : wholes rankOf (drop left nodes) ≡ exactly (size (after left .made))
     pub shallow : size (after left .made) + left ≤ length nodes
-    pub grown : Grown (16 * (length nodes - left)) (4 * (length nodes - left)) form₀ space₀ free₀ form space free
+    pub grown : Grown (sideBound (g .rules) (drop left nodes)) (4 * (length nodes - left)) form₀ space₀ free₀ form space free
     pub few-cells : free .cell + 3 * size (after left .made) ≤ free₀ .cell + 4 * (length nodes - left)
 
   nothing-left : (left : ℕ) → left ≡ length nodes → drop left nodes ≡ []
@@ -138,6 +145,13 @@ module _ {form₀ space₀ : List ℕ} {free₀ : Free} {alphabet ranks roots no
 
     split : drop left nodes ≡ f ∷ drop (suc left) nodes
     split = drop-cons nodes left 0 (omega (arith, s .upto))
+
+    -- how many rules the node may add
+    abbrev adds : Name → ℕ
+    adds = share (ruleRank (g .rules))
+
+    bound-split : sideBound (g .rules) (drop left nodes) ≡ adds (name f) + sideBound (g .rules) (drop (suc left) nodes)
+    bound-split = ap (sumOver adds) split
 
     -- the stack has as many skeletons as the node takes
     trees : (n : ℕ) × (wholes rankOf (drop left nodes) ≡ exactly n) × (k ≤ size (m .made)) × (n ≡ suc (size (m .made) - k))
@@ -189,10 +203,10 @@ module _ {form₀ space₀ : List ℕ} {free₀ : Free} {alphabet ranks roots no
         go nothing h = omega arith
 
     -- there is room for what the node makes
-    room-here : Room 16 (1 + 3 * k) form space free
+    room-here : Room (adds (name f)) (1 + 3 * k) form space free
     room-here = record {
-      fits = omega (arith, g .room .fits, s .grown .few-rules, s .grown .long, s .upto);
-      numbers = omega (arith, g .room .numbers, s .grown .few-rules, s .upto);
+      fits = omega (arith, g .room .fits, s .grown .few-rules, s .grown .long, bound-split, sum-later adds left nodes);
+      numbers = omega (arith, g .room .numbers, s .grown .few-rules, bound-split, sum-later adds left nodes);
       all = s .grown .all ∙ g .room .all;
       left = omega (arith, g .room .left, s .few-cells, s .upto, enough);
     }
@@ -217,19 +231,19 @@ module _ {form₀ space₀ : List ℕ} {free₀ : Free} {alphabet ranks roots no
 
     pub ready : NodeReady form space free roots k xs (name f)
     unfolding rankIn
-    ready = go (name f) named refl
+    ready = go (name f) named refl room-here
       where
         go : (x : Name) → T (allowed alphabet (g .number) (ruleRank (g .rules) (g .number)) x) → nameRank alphabet (g .rules) x ≡ k
-            → NodeReady form space free roots k xs x
-        go (terminal a) h q = (
-          room-less (omega arith) (omega arith) room-here,
+            → Room (adds x) (1 + 3 * k) form space free → NodeReady form space free roots k xs x
+        go (terminal a) h q room = (
+          room-less (omega arith) (omega arith) room,
           record {
             few = node-low;
             there = omega (arith, length-drop low stack, s .long, s .depth, enough);
             each = λ j l. row-at space (free .cell) xs (m .made) (s .stood .row) j (omega (arith, enough)) .0;
           },
         )
-        go (nonterminal r) h q =
+        go (nonterminal r) h q room =
             let l = ltb→lt r (g .number) h in (
               omega (arith, few-rules),
               record {
@@ -239,11 +253,11 @@ module _ {form₀ space₀ : List ℕ} {free₀ : Free} {alphabet ranks roots no
                 lower = omega (arith, g .known .lower r l, s .grown .more-cells);
                 row = taken-row;
                 bounded = fitting r l q;
-                room = room-less (omega (arith, weighs r l q, node-low)) (weighs r l q) room-here;
+                room = room-less (g .known .light r l) (weighs r l q) room;
               },
             )
-        go (parameter j) h q = own-parameter j h
-        go nothing h q = absurd h
+        go (parameter j) h q room = own-parameter j h
+        go nothing h q room = absurd h
 
     -- what the node makes is what the model makes
 
@@ -251,7 +265,7 @@ module _ {form₀ space₀ : List ℕ} {free₀ : Free} {alphabet ranks roots no
     taking-these = record { rules = m .rules; made = top k (m .made) }
 
     record NodeDone (form′ space′ : List ℕ) (r : Made) : Type 0 where
-      pub grown : Grown 16 (1 + 3 * k) form space free form′ space′ (r .free)
+      pub grown : Grown (adds (name f)) (1 + 3 * k) form space free form′ space′ (r .free)
       pub stood : Stood (name-made (g .skeleton) (name f) taking-these) form′ space′ r
 
     done : (form′ space′ : List ℕ) (r : Made) → NodeMade form space free roots k xs (name f) form′ space′ r → NodeDone form′ space′ r
@@ -262,14 +276,14 @@ module _ {form₀ space₀ : List ℕ} {free₀ : Free} {alphabet ranks roots no
       where
         go : (x : Name) → T (allowed alphabet (g .number) (ruleRank (g .rules) (g .number)) x) → nameRank alphabet (g .rules) x ≡ k
             → NodeMade form space free roots k xs x form′ space′ r
-            → Grown 16 (1 + 3 * k) form space free form′ space′ (r .free) × Stood (name-made (g .skeleton) x taking-these) form′ space′ r
+            → Grown (adds x) (1 + 3 * k) form space free form′ space′ (r .free) × Stood (name-made (g .skeleton) x taking-these) form′ space′ r
         go (terminal a) h q made = (
           grown-less (omega arith) (omega arith) (made .grown),
           made .stood (m .rules) (top k (m .made)) (s .stood .held) (s .stood .counted) taken-row taken-size,
         )
         go (nonterminal n) h q made =
             let l = ltb→lt n (g .number) h in (
-              grown-less (omega (arith, weighs n l q, node-low)) (weighs n l q) (made .grown (g .skeleton n) (root-stands n l)),
+              grown-less (g .known .light n l) (weighs n l q) (made .grown (g .skeleton n) (root-stands n l)),
               made .stood (m .rules) (g .skeleton n) (top k (m .made)) (s .stood .held) (s .stood .counted) (root-stands n l) taken-row (fitting n l q),
             )
         go (parameter j) h q made =
@@ -312,7 +326,7 @@ module _ {form₀ space₀ : List ℕ} {free₀ : Free} {alphabet ranks roots no
           depth = rw turned (omega (arith, s .depth, enough, low-enough));
           whole = trees .1 ∙ rw turned (ap exactly (omega (arith, trees .3)));
           shallow = rw turned (omega (arith, s .shallow, enough));
-          grown = grown-within (omega (arith, s .grown .few-rules, d .grown .few-rules, s .upto)) (omega arith) (grown-then (s .grown) (d .grown));
+          grown = grown-within (omega (arith, s .grown .few-rules, d .grown .few-rules, bound-split)) (omega arith) (grown-then (s .grown) (d .grown));
           few-cells = rw turned few;
         }
 
@@ -330,7 +344,7 @@ module _ {form₀ space₀ : List ℕ} {free₀ : Free} {alphabet ranks roots no
 
   -- all nodes
   pub scan-all : {left low : ℕ} {form space : List ℕ} {free : Free} {stack : List ℕ} → left ≡ 0 → Scanning left low form space free stack
-      → (low < mostNodes) × Grown (16 * length nodes) (4 * length nodes) form₀ space₀ free₀ form space free × Stood (sideMade g) form space (record { free = free; cell = getD stack low 0 })
+      → (low < mostNodes) × Grown (sideBound (g .rules) nodes) (4 * length nodes) form₀ space₀ free₀ form space free × Stood (sideMade g) form space (record { free = free; cell = getD stack low 0 })
   scan-all {left} {low} {form} {space} {free} {stack} z s′ =
       let s : Scanning 0 low form space free stack = subst (λ (n : ℕ). Scanning n low form space free stack) z s′ in
       let w : exactly (size (after 0 .made)) ≡ exactly 1 = sym (s .whole) ∙ rw (g .nodes-of) (g .proper .proper (g .number) (g .inside) .whole) in

@@ -1,10 +1,11 @@
 -- All rules of a grammar, from the first to the last.
 use mathlib.Core.Path.{_≡_}
 use mathlib.Core.List.{List}
-use Prim.Native.Nat.{ℕ, _*_, _-_, _≤_, _<_}
+use Prim.Native.Nat.{ℕ, _-_, _≤_, _<_}
 use lib.ListN.{length, getD}
 use Rattle.terms.specs.Grammar.{nodeCount, Proper}
 use Rattle.terms.specs.Grammar.{Rule as Production}
+use Rattle.terms.specs.Form.{formBound}
 use Rattle.terms.specs.Sheet.{rulesBody}
 use Rattle.terms.specs.Check.{alphabetRefusal, mostNodes}
 use Rattle.terms.specs.FormBytes.{ruleOffset}
@@ -26,7 +27,7 @@ pub record Grammar (form terminals body : List ℕ) (rules : ℕ) : Type 0 where
   pub proper : Proper terminals (rulesBody body .rules)
   pub count : rules ≡ length (rulesBody body .rules)
   pub few : nodeCount (rulesBody body .rules) ≤ mostNodes
-  pub room : ruleOffset (16 * nodeCount (rulesBody body .rules)) ≤ length form
+  pub room : ruleOffset (formBound (rulesBody body .rules)) ≤ length form
 
 -- the form that the model makes of the rules
 abbrev pub modelOf : List ℕ → List Production → Form

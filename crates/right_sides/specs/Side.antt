@@ -3,9 +3,9 @@ use mathlib.Core.Path.{_≡_}
 use mathlib.Core.List.{List}
 use Prim.Native.Nat.{ℕ, _*_, _-_, _≤_, _<_}
 use lib.ListN.{length, getD}
-use Rattle.terms.specs.Grammar.{Name, terminal, nonterminal, parameter, nothing, ruleAt, terminalRank, ruleRank, rankIn, Proper}
+use Rattle.terms.specs.Grammar.{Name, terminal, nonterminal, parameter, nothing, ruleAt, terminalRank, ruleRank, rankIn, sumOver, Proper}
 use Rattle.terms.specs.Grammar.{Rule as Production}
-use Rattle.terms.specs.Form.{Rule}
+use Rattle.terms.specs.Form.{Rule, share}
 use Rattle.terms.specs.Check.{mostRules, mostNodes}
 use Rattle.skeletons.specs.Skeleton.{Skeleton, param, nth}
 use Rattle.skeletons.specs.Make as model
@@ -50,6 +50,10 @@ pub record Known (space : List ℕ) (free : Free) (ranks roots : List ℕ) (rule
   pub four : 4 ≤ free .cell
   pub parameters : (j : ℕ) → j < 4 → Stands space j (param j)
 
+-- how many rules the nodes of a right side may add (02 R-6)
+abbrev pub sideBound : List Production → List ℕ → ℕ
+sideBound rules nodes = sumOver (share (ruleRank rules)) nodes
+
 -- the nodes are those of a rule of a grammar, of which the lower rules are known, and there is room for what they make
 pub record RightSide (form space : List ℕ) (free : Free) (alphabet ranks roots nodes : List ℕ) : Type 0 where
   pub rules : List Production
@@ -64,7 +68,7 @@ pub record RightSide (form space : List ℕ) (free : Free) (alphabet ranks roots
   pub known : Known space free ranks roots rules number skeleton
   pub held : Holds form made
   pub counted : free .rule .0 ≡ length made
-  pub room : Room (16 * length nodes) (4 * length nodes) form space free
+  pub room : Room (sideBound rules nodes) (4 * length nodes) form space free
 
 -- the right side is scanned as in the model
 abbrev pub sideMade : {form space : List ℕ} {free : Free} {alphabet ranks roots nodes : List ℕ} → RightSide form space free alphabet ranks roots nodes → model.Made
@@ -73,5 +77,6 @@ sideMade {alphabet = alphabet} {nodes = nodes} g =
     record { rules = m .rules; made = nth (m .made) 0 }
 
 pub record SideMade (form space : List ℕ) (free : Free) (alphabet ranks roots nodes form′ space′ : List ℕ) (r : Made) : Type 0 where
-  pub grown : RightSide form space free alphabet ranks roots nodes → Grown (16 * length nodes) (4 * length nodes) form space free form′ space′ (r .free)
+  pub grown : (g : RightSide form space free alphabet ranks roots nodes)
+      → Grown (sideBound (g .rules) nodes) (4 * length nodes) form space free form′ space′ (r .free)
   pub stood : (g : RightSide form space free alphabet ranks roots nodes) → Stood (sideMade g) form′ space′ r

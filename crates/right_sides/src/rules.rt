@@ -6,6 +6,7 @@ use cells::cells::SPACE;
 use cells::cells::field;
 use cells::state::Free;
 use checks::limits::MOST_RULES;
+use grammars::cursor::span_at;
 use terms::Rule;
 ghost use mathlib.Core.Path.{_≡_};
 ghost use lib.ListN.{replicate};
@@ -44,8 +45,9 @@ pub fn make_rules(form: &mut [u8], alphabet: &[u8], body: &[u8], rules: usize) -
     let mut at = 0;
     let mut rule = Rule(0);
     while (rule.0 as usize) < rules {
-        let start = at + 2;
-        let end = start + body[at + 1] as usize;
+        let span = span_at(body, at);
+        let start = span.start;
+        let end = span.end;
         let made = right_side(
             form,
             &mut cells,
@@ -55,7 +57,7 @@ pub fn make_rules(form: &mut [u8], alphabet: &[u8], body: &[u8], rules: usize) -
             &roots,
             &body[start..end],
         );
-        ranks[rule.0 as usize] = body[at];
+        ranks[rule.0 as usize] = span.rank;
         roots[rule.0 as usize] = made.cell;
         free = made.free;
         at = end;

@@ -6,13 +6,13 @@ use checks::limits::MOST_NODES;
 use checks::limits::MOST_RULES;
 use contraction::contract_terminal::contract_terminal;
 use contraction::substitute::substitute;
-use grammars::name::Name;
-use grammars::name::name_of;
-use grammars::name::name_rank;
+use nodes::name::Name;
+use nodes::name::name_of;
+use nodes::name::name_rank;
 ghost use mathlib.Core.Path.{_≡_};
 ghost use lib.ListN.{length};
 ghost use Rattle.terms.specs.Check.{mostRules};
-ghost use Rattle.grammars.specs.Rules.{naming};
+ghost use Rattle.nodes.specs.Nodes.{naming};
 ghost use Rattle.right_sides.specs.Side.{NodeReady, NodeMade, RightSide, SideMade};
 
 // A node over cells. A parameter's cell has its number.

@@ -2,13 +2,14 @@
 use mathlib.Core.Path.{_≡_, ap}
 use mathlib.Core.Bool.{true, false}
 use mathlib.Core.List.{List}
-use Prim.Native.Nat.{ℕ, zero, suc}
+use Prim.Native.Nat.{ℕ, zero, suc, _*_}
 use native.Mathlib.Omega.{arith}
 use lib.ListN.{length}
 use Rattle.terms.specs.Grammar.{nodeCount}
 use Rattle.terms.specs.Refusal.{outside, orElse}
-use Rattle.terms.specs.Sheet.{rulesBody, rulesOf, nodesOf, bodyOffset, bodyLength, body}
+use Rattle.terms.specs.Sheet.{rulesBody, rulesOf, bodyOffset, bodyLength, body}
 use Rattle.terms.specs.Check.{alphabetRefusal, rulesRefusal, automatonRefusal, joins, sheetRefusal}
+use Rattle.terms.specs.Calls.{rulesForNode, rulesAsked}
 use Rattle.terms.proofs.Test.{of-true}
 use Rattle.terms.proofs.Sheet.Bodies.{joined}
 use Rattle.grammars.specs.Rules.{reading}
@@ -44,15 +45,22 @@ module _ (s : List ℕ) where
           go zero e = absurd (let z : _≡_ {A = ℕ} 0 1 = cc in omega arith)
           go (suc n) e = ap Refused (cc)
 
-      pub sheet-read : (counts : Counts) (t a : ℕ) → rules.the-variants.Read counts ≡ bodiesReading (body s 0) (body s 1) (body s 2) → t ≡ bodyLength s 0
-          → a ≡ bodyOffset s 2 → Sheet (record { terminals = t; rules = counts .rules; nodes = counts .nodes; automaton = a }) ≡ sheetReading s
-      unfolding rulesOf nodesOf
-      sheet-read counts t a e et ea = rw same (go of-bodies e)
+      -- bodies that are read: nothing is refused of the sheet, and the counts are those of its rules
+      pub record BodiesRead (counts : Counts) : Type 0 where
+        pub passes : sheetRefusal s ≡ 0
+        pub rules : counts .rules ≡ length (rulesOf s)
+        pub asked : rulesForNode * counts .nodes ≡ rulesAsked s
+
+      pub bodies-read : (counts : Counts) → rules.the-variants.Read counts ≡ bodiesReading (body s 0) (body s 1) (body s 2) → BodiesRead counts
+      unfolding rulesOf
+      bodies-read counts e = go of-bodies same e
         where
-          go : (n : ℕ) → rules.the-variants.Read counts ≡ reading n (rulesBody (body s 1) .rules)
-              → Sheet (record { terminals = t; rules = counts .rules; nodes = counts .nodes; automaton = a }) ≡ sheetAfter n s
-          go zero e =
-              let r : counts .rules ≡ length (rulesBody (body s 1) .rules) = cc in
+          go : (n : ℕ) → sheetRefusal s ≡ n → rules.the-variants.Read counts ≡ reading n (rulesBody (body s 1) .rules) → BodiesRead counts
+          go zero t e =
               let n : counts .nodes ≡ nodeCount (rulesBody (body s 1) .rules) = cc in
-              rw (et, joined s (of-true (joins s) h) .terminals, ea, r, n)
-          go (suc n) e = absurd (let z : _≡_ {A = ℕ} 0 1 = cc in omega arith)
+              record { passes = t; rules = cc; asked = ap (λ (k : ℕ). rulesForNode * k) n }
+          go (suc n) t e = absurd (let z : _≡_ {A = ℕ} 0 1 = cc in omega arith)
+
+      pub sheet-read : (counts : Counts) (t a : ℕ) → BodiesRead counts → t ≡ bodyLength s 0 → a ≡ bodyOffset s 2
+          → Sheet (record { terminals = t; rules = counts .rules; asked = rulesForNode * counts .nodes; automaton = a }) ≡ sheetReading s
+      sheet-read counts t a r et ea = rw (r .passes, et, joined s (of-true (joins s) h) .terminals, ea, r .rules, r .asked)

@@ -7,11 +7,12 @@ use lib.ListN.{length, getD, drop}
 use Rattle.terms.specs.Test.{any, tabulate, joined}
 use Rattle.terms.specs.Refusal.{_when_, first}
 use Rattle.terms.specs.Tree.{preorder, treeOf}
-use Rattle.terms.specs.Grammar.{terminalRank}
+use Rattle.terms.specs.Grammar.{terminalRank, nodeCount}
+use Rattle.terms.specs.Grammar.{Rule as Production}
 use Rattle.terms.specs.Automaton.{mask}
 use Rattle.terms.specs.Relation.{relationAt}
 use Rattle.terms.specs.Form.{Rule, Value, valueAt}
-use Rattle.terms.specs.Sheet.{nodesOf, transitionsOf, wrapped}
+use Rattle.terms.specs.Sheet.{rulesOf, transitionsOf, wrapped}
 use Rattle.terms.specs.Check.{alphabetRefusal, automatonRefusal, treeRefusal, sheetRefusal, mostNodes}
 use Rattle.terms.specs.FormBytes.{ruleCount, formLength, formRules, formTree, formRefusal}
 use Rattle.terms.specs.Count.{ownNodes, nodesBefore, sizeOf, capped}
@@ -25,9 +26,17 @@ lentAfter (suc n) written entry = entry
 
 -- Form making and marking.
 
--- how many rules a form of the sheet may take: 16 for each right-side node (01 One-hole form)
+-- how many rules of a form a right-side node may take (01 Unfolding)
+abbrev pub rulesForNode : ℕ
+rulesForNode = 16
+
+-- how many rules a form of a grammar may take: so many for each right-side node (01 Unfolding)
+abbrev pub rulesFor : List Production → ℕ
+rulesFor grammar = rulesForNode * nodeCount grammar
+
+-- how many rules a form of the sheet may take; a form of so many has 4 + 192 · G bytes (01 One-hole form)
 abbrev pub rulesAsked : List ℕ → ℕ
-rulesAsked s = 16 * nodesOf s
+rulesAsked s = rulesFor (rulesOf s)
 
 -- form making: 1 to 16, 17 (01 Refusals)
 unfoldable pub makingRefusal : List ℕ → ℕ → ℕ

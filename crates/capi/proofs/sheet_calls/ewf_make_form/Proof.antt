@@ -1,7 +1,5 @@
 -- `capi::sheet_calls::ewf_make_form` meets its contract.
-use lib.ListN.{length}
 use borrow.Author.Needs.{needs}
-use Rattle.terms.specs.Calls.{makingRefusal}
 use Rattle.capi.proofs.Made.{none-made, form-made}
 use Rattle.capi.proofs.sheet_calls.ewf_make_form.Statement.{statement}
 use Rattle.capi.proofs.sheet_calls.ewf_make_form.Tie as tie
@@ -23,7 +21,8 @@ returns c =
     let told = c .before in
     let call = told .before .before .before .before in
     let given = call .before .before .before .before .args in
-    none-made (given .sheet .now) _ (given .form .now) (makingRefusal (given .sheet .now) (length (given .form .now))) (given .written .now) (call .make-form .ensures .0) (call .make-form .ensures .1) (told .n .given .1)
+    let (number, kept) = none-made _ _ (given .written .now) (call .make-form .ensures .0) (told .n .given .1) in
+    (number, (kept, call .make-form .ensures .1))
 
 same-length-2 : tie.Need-same-length-2
 same-length-2 c = search needs
@@ -33,7 +32,8 @@ returns-2 c =
     let told = c .before in
     let call = told .before .before .before .before in
     let given = call .before .before .before .before .args in
-    form-made (given .sheet .now) _ (given .form .now) (makingRefusal (given .sheet .now) (length (given .form .now))) (given .written .now) (call .make-form .ensures .0) (call .make-form .ensures .1) (told .n2 .given .1)
+    let (number, written) = form-made _ _ (given .written .now) (call .make-form .ensures .0) (told .n2 .given .1) in
+    (number, (written, call .make-form .ensures .1))
 
 pub ewf-make-form-spec : {M : Type 1} → statement M
 ewf-make-form-spec =

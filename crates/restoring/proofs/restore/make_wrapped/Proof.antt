@@ -4,6 +4,7 @@ use lib.ListN.{length}
 use lib.Seq.{length-take-le}
 use borrow.Author.Needs.{needs}
 use Rattle.wrapping.specs.declared.wrap.Wrapping.{Wrapping}
+use Rattle.making.proofs.Formed.{makes}
 use Rattle.restoring.specs.Private.Within.{SheetWithin}
 use Rattle.restoring.proofs.Handed.{none-made, sheet-made}
 use Rattle.restoring.proofs.restore.make_wrapped.Statement.{statement}
@@ -38,7 +39,7 @@ returns-2 c =
     let call = c .before .before in
     let told = call .before .before .before .before in
     let given = told .before .before .before .before .args in
-    sheet-made (given .sheet .now) (told .wrapped2 .given .1) _ _ (given .form .now) (call .make-form .ensures .0) (call .make-form .ensures .1)
+    sheet-made (given .sheet .now) (told .wrapped2 .given .1) _ _ (given .form .now) (makes _ (given .form .now) (call .make-form .ensures))
 
 pub make-wrapped-spec : {M : Type 1} → statement M
 make-wrapped-spec =

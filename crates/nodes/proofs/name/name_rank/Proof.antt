@@ -1,9 +1,9 @@
--- `grammars::name::name_rank` meets its contract: what is named is at an index that has a rank, and a rule's rank stands in the list of ranks.
+-- `nodes::name::name_rank` meets its contract: what is named is at an index that has a rank, and a rule's rank stands in the list of ranks.
 use mathlib.Core.Path.{sym}
 use borrow.Author.Needs.{needs}
-use Rattle.grammars.proofs.Rule.{rank-known}
-use Rattle.grammars.proofs.name.name_rank.Statement.{statement}
-use Rattle.grammars.proofs.name.name_rank.Tie as tie
+use Rattle.nodes.proofs.Node.{rank-known}
+use Rattle.nodes.proofs.name.name_rank.Statement.{statement}
+use Rattle.nodes.proofs.name.name_rank.Tie as tie
 
 is-terminal : tie.Need-enum-known-name
 is-terminal c = search needs

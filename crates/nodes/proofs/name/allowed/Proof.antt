@@ -1,7 +1,7 @@
--- `grammars::name::allowed` meets its contract: each arm's test is the definition's for the name that the arm binds.
+-- `nodes::name::allowed` meets its contract: each arm's test is the definition's for the name that the arm binds.
 use borrow.Author.Needs.{needs}
-use Rattle.grammars.proofs.name.allowed.Statement.{statement}
-use Rattle.grammars.proofs.name.allowed.Tie as tie
+use Rattle.nodes.proofs.name.allowed.Statement.{statement}
+use Rattle.nodes.proofs.name.allowed.Tie as tie
 
 is-terminal : tie.Need-enum-known-name
 is-terminal c = search needs

@@ -2,7 +2,7 @@
 use mathlib.Core.Path.{_≡_, refl, ap}
 use mathlib.Core.Bool.{Bool, true, false, cond}
 use mathlib.Core.List.{List, [], _∷_}
-use Prim.Native.Nat.{ℕ, suc, _+_, _-_, _≤_, _<_}
+use Prim.Native.Nat.{ℕ, zero, suc, _+_, _-_, _≤_, _<_}
 use native.Mathlib.Omega.{arith}
 use native.Mathlib.Decide.{ℕ-discrete}
 use borrow.Author.Tests.{eq-eqb, ne-eqb, ltb-true}
@@ -11,12 +11,18 @@ use lib.ListN.{length, getD, set}
 use lib.Seq.{getD-set-same, getD-set-other}
 use Rattle.terms.specs.Tree.{exactly, lacking, taking, wholes}
 use Rattle.terms.specs.Tree as tree
-use Rattle.terms.specs.Grammar.{Name, terminal, nonterminal, parameter, nothing, name, allowed, isParameter, sumOver}
+use Rattle.terms.specs.Grammar.{Name, terminal, nonterminal, parameter, nothing, name, ruleRank, allowed, isParameter, sumOver}
 use Rattle.terms.specs.Check.{mostRules, lone, anyParameter}
 use Rattle.terms.proofs.Grammar.Sum.{sum-over-le}
-use Rattle.grammars.specs.Rules.{HasRank, counting, treesIn}
-use Rattle.grammars.specs.declared.wholes.Wholes.{Wholes}
-use Rattle.grammars.specs.declared.wholes.Wholes.the-variants.{Exactly, Lacking}
+use Rattle.nodes.specs.Nodes.{HasRank, counting, treesIn, ruledBy}
+use Rattle.nodes.specs.declared.wholes.Wholes.{Wholes}
+use Rattle.nodes.specs.declared.wholes.Wholes.the-variants.{Exactly, Lacking}
+
+-- the rank of a rule of which only the rank is known
+pub rank-known : (ranks : List ℕ) (r : ℕ) → ruleRank (ruledBy ranks) r ≡ getD ranks r 0
+rank-known [] r = refl
+rank-known (n ∷ ranks) zero = refl
+rank-known (n ∷ ranks) (suc r) = rank-known ranks r
 
 -- counting parameter j adds what isParameter says to each count
 pub count-set : (counts : List ℕ) (j : ℕ) → j < length counts → (k : ℕ)

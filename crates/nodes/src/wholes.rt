@@ -3,16 +3,16 @@ ghost use mathlib.Core.Path.{_≡_};
 ghost use Prim.Native.Nat.{_<_};
 ghost use Rattle.terms.specs.Tree.{taking};
 ghost use Rattle.terms.specs.Check.{isOne};
-ghost use Rattle.grammars.specs.Rules.{counting, treesIn};
+ghost use Rattle.nodes.specs.Nodes.{counting, treesIn};
 
-pub(crate) enum Wholes {
+pub enum Wholes {
     Exactly(usize),
     // a symbol lacks children
     Lacking,
 }
 
 // A symbol takes as many of the trees behind it as its rank, and makes one.
-pub(crate) fn taking(rank: u8, behind: Wholes) -> Wholes
+pub fn taking(rank: u8, behind: Wholes) -> Wholes
     requires { ⌜ treesIn behind < 65536 ⌝ }
     ensures { λ r. ⌜ counting r ≡ taking rank (counting behind) ⌝ }
 {
@@ -27,7 +27,7 @@ pub(crate) fn taking(rank: u8, behind: Wholes) -> Wholes
 }
 
 // Whether the symbols make one whole tree.
-pub(crate) fn is_one(wholes: Wholes) -> bool
+pub fn is_one(wholes: Wholes) -> bool
     ensures { λ r. ⌜ r ≡ isOne (counting wholes) ⌝ }
 {
     match wholes {

@@ -1,7 +1,7 @@
--- `grammars::wholes::is_one` meets its contract: each arm is the definition's for the count that the arm binds.
+-- `nodes::wholes::is_one` meets its contract: each arm is the definition's for the count that the arm binds.
 use borrow.Author.Needs.{needs}
-use Rattle.grammars.proofs.wholes.is_one.Statement.{statement}
-use Rattle.grammars.proofs.wholes.is_one.Tie as tie
+use Rattle.nodes.proofs.wholes.is_one.Statement.{statement}
+use Rattle.nodes.proofs.wholes.is_one.Tie as tie
 
 is-exactly : tie.Need-enum-known-wholes
 is-exactly c = search needs

@@ -1,11 +1,11 @@
--- `grammars::wholes::taking` meets its contract: there are trees enough where the count is not below the rank, and then the definition's count is the code's.
+-- `nodes::wholes::taking` meets its contract: there are trees enough where the count is not below the rank, and then the definition's count is the code's.
 use mathlib.Core.Path.{ap}
 use native.Mathlib.Omega.{arith}
 use borrow.Author.Needs.{needs}
 use borrow.Author.Tests.{le-leb, lt-leb}
 use Rattle.terms.specs.Tree.{exactly, taking}
-use Rattle.grammars.proofs.wholes.taking.Statement.{statement}
-use Rattle.grammars.proofs.wholes.taking.Tie as tie
+use Rattle.nodes.proofs.wholes.taking.Statement.{statement}
+use Rattle.nodes.proofs.wholes.taking.Tie as tie
 
 is-exactly : tie.Need-enum-known-behind
 is-exactly c = search needs

@@ -1,13 +1,13 @@
--- `grammars::parameters::count_parameter` meets its contract: the count of the parameter that is named grows by one, and nothing changes at any other name.
+-- `nodes::parameters::count_parameter` meets its contract: the count of the parameter that is named grows by one, and nothing changes at any other name.
 use mathlib.Core.Path.{ap}
 use Prim.Native.Nat.{_<_}
 use native.Mathlib.Omega.{arith}
 use borrow.Author.Needs.{needs}
 use lib.ListN.{length, length-set}
-use Rattle.grammars.specs.Rules.{naming}
-use Rattle.grammars.proofs.Node.{count-set}
-use Rattle.grammars.proofs.parameters.count_parameter.Statement.{statement}
-use Rattle.grammars.proofs.parameters.count_parameter.Tie as tie
+use Rattle.nodes.specs.Nodes.{naming}
+use Rattle.nodes.proofs.Node.{count-set}
+use Rattle.nodes.proofs.parameters.count_parameter.Statement.{statement}
+use Rattle.nodes.proofs.parameters.count_parameter.Tie as tie
 
 is-terminal : tie.Need-enum-told
 is-terminal c = search needs

@@ -1,4 +1,4 @@
--- `grammars::parameters::each_once` meets its contract. The loop goes down from the rank. Its invariant: the parameters that are left decide the answer,
+-- `nodes::parameters::each_once` meets its contract. The loop goes down from the rank. Its invariant: the parameters that are left decide the answer,
 -- since those that were passed occur once.
 use mathlib.Core.Path.{_≡_, refl, sym}
 use Prim.Native.Nat.{_≤_}
@@ -8,8 +8,8 @@ use lib.Dec.{eqb}
 use lib.ListN.{getD}
 use Rattle.terms.specs.Test.{every}
 use Rattle.terms.proofs.Scan.{every-fails, every-passes}
-use Rattle.grammars.proofs.parameters.each_once.Statement.{statement}
-use Rattle.grammars.proofs.parameters.each_once.Tie as tie
+use Rattle.nodes.proofs.parameters.each_once.Statement.{statement}
+use Rattle.nodes.proofs.parameters.each_once.Tie as tie
 
 abbrev Inv-loop : tie.InvT-loop
 Inv-loop counts rank left₀ left = (left ≤ 4) × (every rank (λ j. eqb (getD counts j 0) 1) ≡ every left (λ j. eqb (getD counts j 0) 1))

@@ -6,7 +6,7 @@ ghost use mathlib.Core.Path.{_≡_};
 ghost use lib.ListN.{length};
 ghost use Rattle.terms.specs.Grammar.{name, allowed, nameRank};
 ghost use Rattle.terms.specs.Check.{anyParameter};
-ghost use Rattle.grammars.specs.Rules.{naming, ruledBy, HasRank};
+ghost use Rattle.nodes.specs.Nodes.{naming, ruledBy, HasRank};
 
 // Node bytes: terminals, a gap, rules, parameters, and nothing from there on.
 const PAST_TERMINALS: u8 = 0x20;

@@ -1,9 +1,9 @@
--- `grammars::name::name_of` meets its contract: the tests that led to an answer are those that the definition asks, in its order.
+-- `nodes::name::name_of` meets its contract: the tests that led to an answer are those that the definition asks, in its order.
 use borrow.Author.Needs.{needs}
 use borrow.Author.Tests.{lt-ltb, le-ltb}
 use Rattle.terms.specs.Grammar.{name, nameOf}
-use Rattle.grammars.proofs.name.name_of.Statement.{statement}
-use Rattle.grammars.proofs.name.name_of.Tie as tie
+use Rattle.nodes.proofs.name.name_of.Statement.{statement}
+use Rattle.nodes.proofs.name.name_of.Tie as tie
 
 terminal : tie.Need-returns
 unfolding name nameOf

@@ -7,10 +7,10 @@ ghost use lib.Dec.{eqb};
 ghost use lib.ListN.{getD};
 ghost use Rattle.terms.specs.Test.{every};
 ghost use Rattle.terms.specs.Check.{highestRank};
-ghost use Rattle.grammars.specs.Rules.{naming, CanCount, CountedWith};
+ghost use Rattle.nodes.specs.Nodes.{naming, CanCount, CountedWith};
 
 // Counts what a node names, where it is a parameter.
-pub(crate) fn count_parameter(name: Name, counts: &mut [u8; HIGHEST_RANK as usize])
+pub fn count_parameter(name: Name, counts: &mut [u8; HIGHEST_RANK as usize])
     requires { ⌜ CanCount (naming name) (now counts) ⌝ }
     ensures { λ r. ⌜ CountedWith (naming name) (now (counts .entry)) (now (counts .exit)) ⌝ }
 {
@@ -26,7 +26,7 @@ pub(crate) fn count_parameter(name: Name, counts: &mut [u8; HIGHEST_RANK as usiz
 }
 
 // Whether each of the first parameters, as many as the rank, occurs once.
-pub(crate) fn each_once(counts: &[u8; HIGHEST_RANK as usize], rank: u8) -> bool
+pub fn each_once(counts: &[u8; HIGHEST_RANK as usize], rank: u8) -> bool
     requires { ⌜ rank ≤ highestRank ⌝ }
     ensures { λ r. ⌜ r ≡ every rank (λ j. eqb (getD (now (counts .entry)) j 0) 1) ⌝ }
 {
