@@ -1,11 +1,12 @@
 -- Bytes put into a list at a place: what stands there then, and what is kept.
 use mathlib.Core.Path.{_≡_, sym, ap, _∙_}
 use mathlib.Core.List.{List, _++_}
-use Prim.Native.Nat.{ℕ, _+_, _-_, _≤_, _<_}
+use Prim.Native.Nat.{ℕ, _+_, _*_, _-_, _≤_, _<_}
 use native.Mathlib.Omega.{arith}
 use lib.ListN.{length, getD, take, drop, length-append, length-drop, List·getD-append}
 use lib.Seq.{length-take-le, getD-take, getD-drop, getD-append-add}
-use Rattle.terms.specs.FormBytes.{ruleOffset, headBytes}
+use Rattle.terms.specs.FormBytes.{headLength, ruleLength, formLength, headBytes}
+use Rattle.terms.proofs.Form.Written.{behind-head}
 use Rattle.form_bytes.specs.declared.rule.FormRule.{FormRule}
 use Rattle.cells.specs.Bytes.{pasted, bytesOf, Kept, RuleWritten, HeadWritten}
 
@@ -31,11 +32,17 @@ module _ (at : ℕ) (bytes l : List ℕ) (fits : at + length bytes ≤ length l)
         ∙ ap (λ m. getD l m 0) b);
   }
 
-pub rule-written : (number : ℕ) (rule : FormRule) (written exit entry : List ℕ) → ruleOffset number + 12 ≤ length entry → written ≡ bytesOf rule
-    → exit ≡ pasted (ruleOffset number) written entry → RuleWritten number rule exit entry
+pub rule-written : (number : ℕ) (rule : FormRule) (written exit entry : List ℕ) → formLength number + 12 ≤ length entry → written ≡ bytesOf rule
+    → exit ≡ pasted (formLength number) written entry → RuleWritten number rule exit entry
 rule-written number rule written exit entry fits is e =
     rw (e, is)
-    record { bytes = pasted-at (ruleOffset number) (bytesOf rule) entry fits; kept = pasted-keeps (ruleOffset number) (bytesOf rule) entry fits }
+    record {
+      bytes = λ k h.
+          (let exit = pasted (formLength number) (bytesOf rule) entry in
+          let e : headLength + (ruleLength * number + k) ≡ formLength number + k = omega arith in
+          sym (behind-head exit number k) ∙ ap (λ n. getD exit n 0) e ∙ pasted-at (formLength number) (bytesOf rule) entry fits k h);
+      kept = pasted-keeps (formLength number) (bytesOf rule) entry fits;
+    }
 
 pub head-written : (count start : ℕ) (written exit entry : List ℕ) → 4 ≤ length entry → written ≡ headBytes count start → exit ≡ pasted 0 written entry
     → HeadWritten count start exit entry

@@ -4,7 +4,7 @@ use mathlib.Core.List.{List, [], _∷_, _++_}
 use Prim.Native.Nat.{ℕ, _+_, _<_, _≤_}
 use lib.ListN.{length, getD, take, drop}
 use Rattle.terms.specs.Form.{Rule, ruleAt}
-use Rattle.terms.specs.FormBytes.{ruleOffset, ruleByte, unused, bytesWith, fieldsOf, ruleBytes, headBytes}
+use Rattle.terms.specs.FormBytes.{ruleLength, formLength, tableOf, ruleByte, unused, bytesWith, fieldsOf, ruleBytes, headBytes}
 use Rattle.form_bytes.specs.declared.rule.FormRule.{FormRule}
 
 -- bytes put into a list at a place (01 One-hole form)
@@ -33,7 +33,7 @@ fieldsFor r = fieldsWith (fieldsOf r .kind) (fieldsOf r .terminal) (fieldsOf r .
 
 -- the bytes hold the rules, from rule 0 on (01 One-hole form)
 pub record Holds (form : List ℕ) (rules : List Rule) : Type 0 where
-  pub bytes : (i k : ℕ) → i < length rules → k < 12 → ruleByte form i k ≡ getD (ruleBytes (ruleAt rules i)) k 0
+  pub bytes : (i k : ℕ) → i < length rules → k < ruleLength → ruleByte (tableOf form) i k ≡ getD (ruleBytes (ruleAt rules i)) k 0
 
 -- a list that differs from another only from a place on, for as many elements as are given (01 One-hole form)
 pub record Kept (at size : ℕ) (exit entry : List ℕ) : Type 0 where
@@ -43,8 +43,8 @@ pub record Kept (at size : ℕ) (exit entry : List ℕ) : Type 0 where
 
 -- the rule of a number is written, and nothing else (01 One-hole form)
 pub record RuleWritten (number : ℕ) (rule : FormRule) (exit entry : List ℕ) : Type 0 where
-  pub bytes : (k : ℕ) → k < 12 → ruleByte exit number k ≡ getD (bytesOf rule) k 0
-  pub kept : Kept (ruleOffset number) 12 exit entry
+  pub bytes : (k : ℕ) → k < ruleLength → ruleByte (tableOf exit) number k ≡ getD (bytesOf rule) k 0
+  pub kept : Kept (formLength number) ruleLength exit entry
 
 -- the head is written, and nothing else (01 One-hole form)
 pub record HeadWritten (count start : ℕ) (exit entry : List ℕ) : Type 0 where

@@ -3,7 +3,7 @@ use mathlib.Core.Path.{_≡_}
 use mathlib.Core.List.{List}
 use Prim.Native.Nat.{ℕ, _+_, _*_, _≤_, _<_}
 use lib.ListN.{length, getD}
-use Rattle.terms.specs.FormBytes.{ruleOffset}
+use Rattle.terms.specs.FormBytes.{formLength}
 use Rattle.skeletons.specs.Make as model
 use Rattle.form_bytes.specs.declared.rule.FormRule.{FormRule}
 use Rattle.cells.specs.Bytes.{Holds, RuleWritten}
@@ -26,7 +26,7 @@ pub record CellAdded (fields : List ℕ) (free : Free) (cells : List ℕ) (r : M
 
 -- there is room for so many rules and cells
 pub record Room (rules cells : ℕ) (form space : List ℕ) (free : Free) : Type 0 where
-  pub fits : ruleOffset (free .rule .0 + rules) ≤ length form
+  pub fits : formLength (free .rule .0 + rules) ≤ length form
   pub numbers : free .rule .0 + rules < 65536
   pub all : length space ≡ spaceLength
   pub left : free .cell + cells ≤ mostCells
@@ -39,7 +39,7 @@ pub record Grown (rules cells : ℕ) (form space : List ℕ) (free : Free) (form
   pub few-rules : free′ .rule .0 ≤ free .rule .0 + rules
   pub more-cells : free .cell ≤ free′ .cell
   pub few-cells : free′ .cell ≤ free .cell + cells
-  pub behind : (k : ℕ) → ruleOffset (free′ .rule .0) ≤ k → getD form′ k 0 ≡ getD form k 0
+  pub behind : (k : ℕ) → formLength (free′ .rule .0) ≤ k → getD form′ k 0 ≡ getD form k 0
   pub below : (k : ℕ) → k < 7 * free .cell → getD space′ k 0 ≡ getD space k 0
 
 -- the form holds the rules that a step of the model makes, and the cell represents the skeleton that it makes

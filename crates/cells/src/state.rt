@@ -8,7 +8,7 @@ use terms::Rule;
 ghost use mathlib.Core.Path.{_≡_};
 ghost use Prim.Native.Nat.{_+_, _<_, _≤_};
 ghost use lib.ListN.{length};
-ghost use Rattle.terms.specs.FormBytes.{ruleOffset};
+ghost use Rattle.terms.specs.FormBytes.{formLength};
 ghost use Rattle.cells.specs.Cells.{mostCells, spaceLength};
 ghost use Rattle.cells.specs.State.{RuleAdded, CellAdded};
 
@@ -26,7 +26,7 @@ pub struct Made {
 
 // Adds a rule.
 pub fn add_rule(form: &mut [u8], free: Free, rule: FormRule) -> Free
-    requires { ⌜ (ruleOffset (free .rule .0) + 12 ≤ length (now form)) × (free .rule .0 < 65535) ⌝ }
+    requires { ⌜ (formLength (free .rule .0) + 12 ≤ length (now form)) × (free .rule .0 < 65535) ⌝ }
     ensures { λ r. ⌜ RuleAdded rule free (now (form .entry)) r (now (form .exit)) ⌝ }
 {
     write_rule(form, free.rule, rule);

@@ -7,7 +7,7 @@ use terms::Rule;
 ghost use mathlib.Core.Path.{_≡_};
 ghost use Prim.Native.Nat.{_+_, _≤_};
 ghost use lib.ListN.{length};
-ghost use Rattle.terms.specs.FormBytes.{ruleOffset, headBytes};
+ghost use Rattle.terms.specs.FormBytes.{formLength, headBytes};
 ghost use Rattle.cells.specs.Bytes.{bytesOf, RuleWritten, HeadWritten};
 
 // The bytes of a rule.
@@ -44,7 +44,7 @@ fn head_bytes(count: usize, start: Rule) -> [u8; HEAD]
 
 // Writes the rule of a number.
 pub fn write_rule(form: &mut [u8], number: Rule, rule: FormRule)
-    requires { ⌜ ruleOffset (number .0) + 12 ≤ length (now form) ⌝ }
+    requires { ⌜ formLength (number .0) + 12 ≤ length (now form) ⌝ }
     ensures { λ _. ⌜ RuleWritten (number .0) rule (now (form .exit)) (now (form .entry)) ⌝ }
 {
     let bytes = rule_bytes(rule);

@@ -7,7 +7,7 @@ use lib.ListN.{length, getD, take, drop, length-drop, take-append-drop}
 use lib.Seq.{length-take-le, getD-take, getD-drop, ext-getD}
 use Rattle.terms.specs.Grammar.{Rule}
 use Rattle.terms.specs.Form.{Rule as FormRule}
-use Rattle.terms.specs.FormBytes.{ruleOffset, headBytes}
+use Rattle.terms.specs.FormBytes.{formLength, headBytes}
 use Rattle.terms.specs.Sheet.{rulesBody}
 use Rattle.terms.proofs.Sheet.Passed.{alphabet-passed}
 use Rattle.terms.proofs.Form.Written.{only-bytes}
@@ -28,7 +28,7 @@ module _ {form alphabet body : List ℕ} {count : ℕ} (g : Grammar form alphabe
   rules = modelOf alphabet grammar .rules
 
   -- the rules fit the slice
-  fits : ruleOffset (length rules) ≤ length form
+  fits : formLength (length rules) ≤ length form
   fits = omega (arith, scanned-form alphabet grammar (g .proper) .2 .few, g .room)
 
   pub head-fits : 4 ≤ length form₁
@@ -36,7 +36,7 @@ module _ {form alphabet body : List ℕ} {count : ℕ} (g : Grammar form alphabe
 
   module _ {form₂ : List ℕ} (h : HeadWritten (w .count .0) (w .start .0) form₂ form₁) where
     abbrev n : ℕ
-    n = ruleOffset (length rules)
+    n = formLength (length rules)
 
     long₂ : length form₂ ≡ length form
     long₂ = h .kept .long ∙ m .long
@@ -60,7 +60,7 @@ module _ {form alphabet body : List ℕ} {count : ℕ} (g : Grammar form alphabe
         ext-getD 0 (drop n form₂) (drop n form) (length-drop n form₂ ∙ rw long₂ (sym (length-drop n form)))
         (λ k l. getD-drop n form₂ k 0 ∙ h .kept .behind (n + k) (omega arith) ∙ m .behind (n + k) (omega (arith, m .counted)) ∙ sym (getD-drop n form k 0))
 
-    pub form-written : FormWritten alphabet grammar (ruleOffset (w .count .0)) form₂ form
+    pub form-written : FormWritten alphabet grammar (formLength (w .count .0)) form₂ form
     form-written =
         let b = made-bytes alphabet grammar (alphabet-passed alphabet (g .alphabet)) (g .proper) (g .few) in
         let long : n ≡ length (madeForm alphabet grammar) = sym (length-take-le n form₂ (omega (arith, long₂, fits))) ∙ ap length bytes in

@@ -10,7 +10,7 @@ use Rattle.terms.specs.Grammar.{Rule, ruleAt, ruleRank, rankIn, sumRules}
 use Rattle.terms.specs.Form.{formBound}
 use Rattle.terms.specs.Sheet.{rulesBody}
 use Rattle.terms.specs.Check.{mostRules}
-use Rattle.terms.specs.FormBytes.{ruleOffset}
+use Rattle.terms.specs.FormBytes.{formLength}
 use Rattle.terms.proofs.Sheet.Passed.{alphabet-passed}
 use Rattle.terms.proofs.Form.Bytes.{rank-le}
 use Rattle.skeletons.specs.Skeleton.{param, shut, nth}
@@ -66,7 +66,7 @@ module _ {form₀ alphabet body : List ℕ} {count : ℕ} (g : Grammar form₀ a
     pub few-cells : free .cell ≤ 4 + 4 * nodes
     pub all : length space ≡ spaceLength
     pub long : length form ≡ length form₀
-    pub kept : (k : ℕ) → ruleOffset (free .rule .0) ≤ k → getD form k 0 ≡ getD form₀ k 0
+    pub kept : (k : ℕ) → formLength (free .rule .0) ≤ k → getD form k 0 ≡ getD form₀ k 0
 
   pub none-made : {space : List ℕ} {free : Free} {ranks roots : List ℕ} → Parameters space → free .rule .0 ≡ 0 → free .cell ≡ 4 → length ranks ≡ mostRules → length roots ≡ mostRules
       → Making 0 0 form₀ space free ranks roots

@@ -8,7 +8,7 @@ use Rattle.terms.specs.Grammar.{Rule as Production}
 use Rattle.terms.specs.Form.{formBound}
 use Rattle.terms.specs.Sheet.{rulesBody}
 use Rattle.terms.specs.Check.{alphabetRefusal, mostNodes}
-use Rattle.terms.specs.FormBytes.{ruleOffset}
+use Rattle.terms.specs.FormBytes.{formLength}
 use Rattle.skeletons.specs.Skeleton.{param, shut}
 use Rattle.skeletons.specs.Make.{Form, skeletonOf}
 use Rattle.skeletons.specs.Scan.{scanned}
@@ -27,7 +27,7 @@ pub record Grammar (form terminals body : List ℕ) (rules : ℕ) : Type 0 where
   pub proper : Proper terminals (rulesBody body .rules)
   pub count : rules ≡ length (rulesBody body .rules)
   pub few : nodeCount (rulesBody body .rules) ≤ mostNodes
-  pub room : ruleOffset (formBound (rulesBody body .rules)) ≤ length form
+  pub room : formLength (formBound (rulesBody body .rules)) ≤ length form
 
 -- the form that the model makes of the rules
 abbrev pub modelOf : List ℕ → List Production → Form
@@ -39,4 +39,4 @@ pub record RulesMade (form alphabet body form′ : List ℕ) (r : Whole) : Type 
   pub counted : r .count .0 ≡ length (modelOf alphabet (rulesBody body .rules) .rules)
   pub begun : skeletonOf (modelOf alphabet (rulesBody body .rules)) (length (rulesBody body .rules) - 1) ≡ shut (r .start .0)
   pub long : length form′ ≡ length form
-  pub behind : (k : ℕ) → ruleOffset (r .count .0) ≤ k → getD form′ k 0 ≡ getD form k 0
+  pub behind : (k : ℕ) → formLength (r .count .0) ≤ k → getD form′ k 0 ≡ getD form k 0
