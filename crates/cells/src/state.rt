@@ -1,10 +1,10 @@
-// What form making adds to: the form's rules and the cells, both of which only grow.
+// What form making adds to: the rules in the form's table and the cells, both of which only grow.
 use crate::write::write_rule;
 use form_bytes::rule::FormRule;
 use terms::Rule;
-ghost use Prim.Native.Nat.{_+_, _<_, _≤_};
+ghost use Prim.Native.Nat.{_+_, _*_, _<_, _≤_};
 ghost use lib.ListN.{length};
-ghost use Rattle.terms.specs.FormBytes.{ruleOffset};
+ghost use Rattle.terms.specs.FormBytes.{ruleLength};
 ghost use Rattle.cells.specs.State.{RuleAdded};
 
 // The numbers of the next rule and the next cell.
@@ -20,11 +20,11 @@ pub struct Made {
 }
 
 // Adds a rule.
-pub fn add_rule(form: &mut [u8], free: Free, rule: FormRule) -> Free
-    requires { ⌜ (ruleOffset (free .rule .0) + 12 ≤ length (now form)) × (free .rule .0 < 65535) ⌝ }
-    ensures { λ r. ⌜ RuleAdded rule free (now (form .entry)) r (now (form .exit)) ⌝ }
+pub fn add_rule(table: &mut [u8], free: Free, rule: FormRule) -> Free
+    requires { ⌜ (ruleLength * free .rule .0 + ruleLength ≤ length (now table)) × (free .rule .0 < 65535) ⌝ }
+    ensures { λ r. ⌜ RuleAdded rule free (now (table .entry)) r (now (table .exit)) ⌝ }
 {
-    write_rule(form, free.rule, rule);
+    write_rule(table, free.rule, rule);
     Free {
         rule: Rule(free.rule.0 + 1),
         cell: free.cell,

@@ -6,9 +6,9 @@ use lib.ListN.{length, take}
 use Rattle.terms.specs.Tree.{Tree, preorder}
 use Rattle.terms.specs.Sheet.{alphabetOf, automatonOf, sheetTree}
 use Rattle.terms.specs.Check.{sheetRefusal}
-use Rattle.terms.specs.FormBytes.{ruleCount, ruleOffset}
+use Rattle.terms.specs.FormBytes.{ruleCount, formLength}
 use Rattle.terms.specs.Count.{sizeOf}
-use Rattle.terms.specs.Calls.{rulesAsked, formMask, mostWalked}
+use Rattle.terms.specs.Calls.{rulesAsked, countsPerRule, formMask, mostWalked}
 use Rattle.terms.specs.Demand.{FormOfSheet, Demand3}
 use Rattle.terms.proofs.Demand.{making-passes, form-meets}
 use Rattle.making.specs.Making.{Makes}
@@ -23,7 +23,7 @@ use Rattle.certificate.specs.Certify.{Slices, Walked, Ran, Follows, Call
 use Rattle.certificate.specs.declared.certify.Answers.{Answers}
 use Rattle.unfolding.proofs.Unfolded.{unfolds, tree-first}
 
-module _ (sheet : List ℕ) (answers : Answers) (form : List ℕ) (lent : Slices) (form′ : List ℕ) (left : Slices) (passes : sheetRefusal sheet ≡ 0) (room : ruleOffset (rulesAsked sheet) ≤ length form) where
+module _ (sheet : List ℕ) (answers : Answers) (form : List ℕ) (lent : Slices) (form′ : List ℕ) (left : Slices) (passes : sheetRefusal sheet ≡ 0) (room : formLength (rulesAsked sheet) ≤ length form) where
   abbrev alphabet : List ℕ
   alphabet = alphabetOf sheet
 
@@ -40,7 +40,7 @@ module _ (sheet : List ℕ) (answers : Answers) (form : List ℕ) (lent : Slices
     demand : Demand3 sheet written
     demand = form-meets sheet passes written formed
 
-    module _ (counts : 2 * ruleCount written ≤ length (lent .counts)) (long : sizeOf tree ≤ length (lent .tree)) where
+    module _ (counts : countsPerRule * ruleCount written ≤ length (lent .counts)) (long : sizeOf tree ≤ length (lent .tree)) where
       nodes-written : answers .unfolded ≡ Written (sizeOf tree)
       nodes-written = unfolds (ran .unfolded) tree (formed .tree) (demand .unfolded _ _ counts long)
 

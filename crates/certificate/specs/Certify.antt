@@ -6,9 +6,9 @@ use lib.ListN.{length, take}
 use Rattle.terms.specs.Tree.{preorder}
 use Rattle.terms.specs.Sheet.{alphabetOf, automatonOf, sheetTree}
 use Rattle.terms.specs.Check.{sheetRefusal}
-use Rattle.terms.specs.FormBytes.{ruleCount, ruleOffset}
+use Rattle.terms.specs.FormBytes.{ruleCount, formLength}
 use Rattle.terms.specs.Count.{sizeOf}
-use Rattle.terms.specs.Calls.{lentAfter, rulesAsked, evaluationRefusal, relationsOf, mostWalked, walkRefusal, walkMasks}
+use Rattle.terms.specs.Calls.{lentAfter, rulesAsked, countsPerRule, evaluationRefusal, relationsOf, mostWalked, walkRefusal, walkMasks}
 use Rattle.terms.specs.Demand.{FormOfSheet, MaskOfRuns}
 use Rattle.making.specs.Making.{Makes}
 use Rattle.making.specs.declared.Making.{Making}
@@ -84,12 +84,12 @@ pub record Certificate (sheet : List ℕ) (answers : Answers) (lent : Slices) (f
   pub evaluated : ruleCount (take written form′) ≤ length (lent .relations) → answers .evaluated ≡ evaluating.Mask mask
   pub runs : MaskOfRuns sheet mask
   -- with 2 · R numbers and as many bytes as the tree has nodes lent, unfolding writes exactly that tree
-  pub unfolded : 2 * ruleCount (take written form′) ≤ length (lent .counts) → sizeOf (sheetTree sheet) ≤ length (lent .tree)
+  pub unfolded : countsPerRule * ruleCount (take written form′) ≤ length (lent .counts) → sizeOf (sheetTree sheet) ≤ length (lent .tree)
       → (answers .unfolded ≡ nodes.Written (sizeOf (sheetTree sheet))) × (take (sizeOf (sheetTree sheet)) (left .tree) ≡ preorder (sheetTree sheet))
   -- and where it has at most 4,096 nodes, with as many bytes lent once more, the walk over what was written answers the same mask
-  pub walked : 2 * ruleCount (take written form′) ≤ length (lent .counts) → sizeOf (sheetTree sheet) ≤ length (lent .tree)
+  pub walked : countsPerRule * ruleCount (take written form′) ≤ length (lent .counts) → sizeOf (sheetTree sheet) ≤ length (lent .tree)
       → sizeOf (sheetTree sheet) ≤ mostWalked → sizeOf (sheetTree sheet) ≤ length (lent .masks) → answers .walked ≡ walk.Mask mask
 
 -- demand 3, for every byte string that refusals 1 to 16 let through, with 4 + 192 · G form bytes lent, whatever the slices held before (01 Unfolding)
 abbrev pub Certified : List ℕ → Answers → List ℕ → Slices → List ℕ → Slices → Type 0
-Certified sheet answers form lent form′ left = sheetRefusal sheet ≡ 0 → ruleOffset (rulesAsked sheet) ≤ length form → Certificate sheet answers lent form′ left
+Certified sheet answers form lent form′ left = sheetRefusal sheet ≡ 0 → formLength (rulesAsked sheet) ≤ length form → Certificate sheet answers lent form′ left

@@ -72,15 +72,15 @@ fieldsOver cells kind f hole rank xs = record {
 }
 
 -- a step of a terminal over cells is that of the model, where so many of the cells are open
-pub record ContractedWhere (o : Open) (form space : List ℕ) (free : Free) (f rank : ℕ) (xs form′ space′ : List ℕ) (r : Made) : Type 0 where
-  pub grown : Grown 2 1 form space free form′ space′ (r .free)
+pub record ContractedWhere (o : Open) (table space : List ℕ) (free : Free) (f rank : ℕ) (xs table′ space′ : List ℕ) (r : Made) : Type 0 where
+  pub grown : Grown 2 1 table space free table′ space′ (r .free)
   pub lower : r .cell < r .free .cell
-  pub stood : (rs : List Rule) (ss : Skeletons) → Holds form rs → free .rule .0 ≡ length rs → Row space (free .cell) xs ss → size ss ≡ rank → Sorted 0 o (sort ss)
-      → Stood (contract-terminal rs f ss) form′ space′ r
+  pub stood : (rs : List Rule) (ss : Skeletons) → Holds table rs → free .rule .0 ≡ length rs → Row space (free .cell) xs ss → size ss ≡ rank → Sorted 0 o (sort ss)
+      → Stood (contract-terminal rs f ss) table′ space′ r
 
 -- a step of a terminal over cells is that of the model
-pub record TerminalContracted (form space : List ℕ) (free : Free) (f rank : ℕ) (xs form′ space′ : List ℕ) (r : Made) : Type 0 where
-  pub grown : Grown 2 1 form space free form′ space′ (r .free)
+pub record TerminalContracted (table space : List ℕ) (free : Free) (f rank : ℕ) (xs table′ space′ : List ℕ) (r : Made) : Type 0 where
+  pub grown : Grown 2 1 table space free table′ space′ (r .free)
   pub lower : r .cell < r .free .cell
-  pub stood : (rs : List Rule) (ss : Skeletons) → Holds form rs → free .rule .0 ≡ length rs → Row space (free .cell) xs ss → size ss ≡ rank
-      → Stood (contract-terminal rs f ss) form′ space′ r
+  pub stood : (rs : List Rule) (ss : Skeletons) → Holds table rs → free .rule .0 ≡ length rs → Row space (free .cell) xs ss → size ss ≡ rank
+      → Stood (contract-terminal rs f ss) table′ space′ r

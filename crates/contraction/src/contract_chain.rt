@@ -34,27 +34,26 @@ fn chain(kind: u8, b: Rule, c: Rule) -> FormRule
 
 // Over a rule of rank 0 it makes a rule of rank 0, over a rule of rank 1 one of rank 1; over anything else it stays as it is.
 pub fn contract_chain(
-    form: &mut [u8],
+    table: &mut [u8],
     cells: &mut [u16; SPACE],
     free: Free,
     context: Rule,
     cell: u16,
 ) -> Made
-    requires { ⌜ Room 1 1 (now form) (now cells) free × (cell < free .cell) ⌝ }
-    ensures { λ r. ⌜ ChainContracted (now (form .entry)) (now (cells .entry)) free (context .0) cell (now (form .exit)) (now (cells .exit)) r ⌝ }
+    requires { ⌜ Room 1 1 (now table) (now cells) free × (cell < free .cell) ⌝ }
+    ensures { λ r. ⌜ ChainContracted (now (table .entry)) (now (cells .entry)) free (context .0) cell (now (table .exit)) (now (cells .exit)) r ⌝ }
 {
     match read_cell(cells, cell) {
         Cell::Closed(rule) => {
             let number = free.rule;
-            let next = add_rule(form, free, chain(2, context, rule));
+            let next = add_rule(table, free, chain(2, context, rule));
             add_closed(cells, next, number)
         }
         Cell::Over(rule, child) => {
             let number = free.rule;
-            let next = add_rule(form, free, chain(3, context, rule));
+            let next = add_rule(table, free, chain(3, context, rule));
             add_over(cells, next, number, child)
         }
-        Cell::Parameter(_) => add_over(cells, free, context, cell),
-        Cell::Terminal(_, _) => add_over(cells, free, context, cell),
+        Cell::Parameter(_) | Cell::Terminal(_, _) => add_over(cells, free, context, cell),
     }
 }

@@ -93,25 +93,25 @@ fn rule_over(
 
 // A terminal over closed children: a rule of rank 0.
 fn close(
-    form: &mut [u8],
+    table: &mut [u8],
     cells: &mut [u16; SPACE],
     free: Free,
     terminal: Terminal,
     rank: u8,
     children: &[u16],
 ) -> Made
-    requires { ⌜ Room 2 1 (now form) (now cells) free × Children rank (free .cell) (now children) ⌝ }
-    ensures { λ r. ⌜ ContractedWhere Open.Nowhere (now (form .entry)) (now (cells .entry)) free (terminal .0) rank (now (children .entry)) (now (form .exit)) (now (cells .exit)) r ⌝ }
+    requires { ⌜ Room 2 1 (now table) (now cells) free × Children rank (free .cell) (now children) ⌝ }
+    ensures { λ r. ⌜ ContractedWhere Open.Nowhere (now (table .entry)) (now (cells .entry)) free (terminal .0) rank (now (children .entry)) (now (table .exit)) (now (cells .exit)) r ⌝ }
 {
     let rule = rule_over(cells, 0, terminal, 0, rank, children);
     let number = free.rule;
-    let next = add_rule(form, free, rule);
+    let next = add_rule(table, free, rule);
     add_closed(cells, next, number)
 }
 
 // A terminal over children of which one is open: a rule of rank 1 over that one.
 fn pierce(
-    form: &mut [u8],
+    table: &mut [u8],
     cells: &mut [u16; SPACE],
     free: Free,
     terminal: Terminal,
@@ -119,31 +119,31 @@ fn pierce(
     children: &[u16],
     place: u8,
 ) -> Made
-    requires { ⌜ Room 2 1 (now form) (now cells) free × Children rank (free .cell) (now children) × (place < rank) ⌝ }
-    ensures { λ r. ⌜ ContractedWhere (Open.At place) (now (form .entry)) (now (cells .entry)) free (terminal .0) rank (now (children .entry)) (now (form .exit)) (now (cells .exit)) r ⌝ }
+    requires { ⌜ Room 2 1 (now table) (now cells) free × Children rank (free .cell) (now children) × (place < rank) ⌝ }
+    ensures { λ r. ⌜ ContractedWhere (Open.At place) (now (table .entry)) (now (cells .entry)) free (terminal .0) rank (now (children .entry)) (now (table .exit)) (now (cells .exit)) r ⌝ }
 {
     let open = children[place as usize];
     let rule = rule_over(cells, 1, terminal, place + 1, rank, children);
-    let next = add_rule(form, free, rule);
+    let next = add_rule(table, free, rule);
     let context = free.rule;
-    contract_chain(form, cells, next, context, open)
+    contract_chain(table, cells, next, context, open)
 }
 
 // A terminal over cells.
 pub fn contract_terminal(
-    form: &mut [u8],
+    table: &mut [u8],
     cells: &mut [u16; SPACE],
     free: Free,
     terminal: Terminal,
     rank: u8,
     children: &[u16],
 ) -> Made
-    requires { ⌜ Room 2 1 (now form) (now cells) free × Children rank (free .cell) (now children) ⌝ }
-    ensures { λ r. ⌜ TerminalContracted (now (form .entry)) (now (cells .entry)) free (terminal .0) rank (now (children .entry)) (now (form .exit)) (now (cells .exit)) r ⌝ }
+    requires { ⌜ Room 2 1 (now table) (now cells) free × Children rank (free .cell) (now children) ⌝ }
+    ensures { λ r. ⌜ TerminalContracted (now (table .entry)) (now (cells .entry)) free (terminal .0) rank (now (children .entry)) (now (table .exit)) (now (cells .exit)) r ⌝ }
 {
     match open_among(cells, rank, children) {
-        Open::Nowhere => close(form, cells, free, terminal, rank, children),
-        Open::At(place) => pierce(form, cells, free, terminal, rank, children, place),
+        Open::Nowhere => close(table, cells, free, terminal, rank, children),
+        Open::At(place) => pierce(table, cells, free, terminal, rank, children, place),
         Open::Several => add_terminal(cells, free, terminal, rank, children),
     }
 }

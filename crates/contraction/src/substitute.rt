@@ -15,14 +15,14 @@ ghost use Rattle.contraction.specs.Substitution.{Instance, Instanced, In
 
 // The cell with its parameters replaced by the arguments' cells.
 pub fn substitute(
-    form: &mut [u8],
+    table: &mut [u8],
     cells: &mut [u16; SPACE],
     free: Free,
     args: &[u16],
     cell: u16,
 ) -> Made
-    requires { ⌜ Instance (now form) (now cells) free (now args) cell ⌝ }
-    ensures { λ r. ⌜ Instanced (now (form .entry)) (now (cells .entry)) free (now (args .entry)) cell (now (form .exit)) (now (cells .exit)) r ⌝ }
+    requires { ⌜ Instance (now table) (now cells) free (now args) cell ⌝ }
+    ensures { λ r. ⌜ Instanced (now (table .entry)) (now (cells .entry)) free (now (args .entry)) cell (now (table .exit)) (now (cells .exit)) r ⌝ }
 {
     match read_cell(cells, cell) {
         Cell::Parameter(j) => {
@@ -31,21 +31,21 @@ pub fn substitute(
         }
         Cell::Closed(_) => Made { free, cell },
         Cell::Over(rule, child) => {
-            let inner = substitute(form, cells, free, args, child);
+            let inner = substitute(table, cells, free, args, child);
             let next = inner.free;
-            contract_chain(form, cells, next, rule, inner.cell)
+            contract_chain(table, cells, next, rule, inner.cell)
         }
         Cell::Terminal(terminal, rank) => {
             let mut children = [0u16; HIGHEST_RANK as usize];
-            let next = substitute_from(form, cells, free, args, cell, 0, &mut children);
-            contract_terminal(form, cells, next, terminal, rank as u8, &children)
+            let next = substitute_from(table, cells, free, args, cell, 0, &mut children);
+            contract_terminal(table, cells, next, terminal, rank as u8, &children)
         }
     }
 }
 
 // The children of a cell from child `j` on, the last one first.
 fn substitute_from(
-    form: &mut [u8],
+    table: &mut [u8],
     cells: &mut [u16; SPACE],
     free: Free,
     args: &[u16],
@@ -53,15 +53,15 @@ fn substitute_from(
     j: u16,
     children: &mut [u16; HIGHEST_RANK as usize],
 ) -> Free
-    requires { ⌜ InstanceFrom (now form) (now cells) free (now args) cell j × (length (now children) ≡ 4) ⌝ }
-    ensures { λ r. ⌜ InstancedFrom (now (form .entry)) (now (cells .entry)) free (now (args .entry)) cell j (now (form .exit)) (now (cells .exit)) r (now (children .exit)) ⌝ }
+    requires { ⌜ InstanceFrom (now table) (now cells) free (now args) cell j × (length (now children) ≡ 4) ⌝ }
+    ensures { λ r. ⌜ InstancedFrom (now (table .entry)) (now (cells .entry)) free (now (args .entry)) cell j (now (table .exit)) (now (cells .exit)) r (now (children .exit)) ⌝ }
 {
     if child_count(cells, cell) <= j {
         return free;
     }
-    let behind = substitute_from(form, cells, free, args, cell, j + 1, children);
+    let behind = substitute_from(table, cells, free, args, cell, j + 1, children);
     let child = child_at(cells, cell, j);
-    let made = substitute(form, cells, behind, args, child);
+    let made = substitute(table, cells, behind, args, child);
     children[j as usize] = made.cell;
     made.free
 }

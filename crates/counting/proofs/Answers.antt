@@ -7,17 +7,18 @@ use lib.Dec.{ltb}
 use lib.ListN.{length, take, drop}
 use lib.Seq.{take-at}
 use borrow.Author.Tests.{ltb-false, lt-ltb, le-ltb}
-use Rattle.terms.specs.FormBytes.{ruleCount, formTree, formRefusal}
+use Rattle.terms.specs.FormBytes.{ruleCount, tableCount, tableRules, formTree, formRefusal}
 use Rattle.terms.specs.Check.{alphabetRefusal}
 use Rattle.terms.specs.Count.{sizeOf, largest, capped, sizeAnswer}
-use Rattle.terms.specs.Calls.{lentAfter, countsOf, openingRefusal, sizeRefusal}
+use Rattle.terms.specs.Calls.{lentAfter, openingRefusal, countsPerRule, rulesCounts, countsOf, sizeRefusal}
 use Rattle.terms.proofs.Lent.{lent-kept, lent-written}
 use Rattle.terms.proofs.Refusal.{stops, none-before, no-row}
 use Rattle.counting.specs.declared.answer.Size.the-variants as size
 use Rattle.counting.specs.Size.{sized, sizeCall}
-use Rattle.counting.specs.Private.Counts.{CountedForm}
+use Rattle.counting.specs.Private.Counts.{CountedTable}
 use Rattle.forms.proofs.Laws.{refused}
-use Rattle.forms.proofs.Rules.{opening-passed}
+use Rattle.forms.specs.Private.Table.{ValidTable}
+use Rattle.forms.proofs.Rules.{rules-counted, opening-passed}
 use Rattle.counting.proofs.Counted.{length-counts}
 
 -- size, with n numbers lent
@@ -26,47 +27,50 @@ module _ (alphabet form : List ℕ) (n : ℕ) where
   unfolding sizeRefusal
   opening-refused h = stops (openingRefusal alphabet form) _ h
 
-  pub numbers-lacking : openingRefusal alphabet form ≡ 0 → n < 2 * ruleCount form → sizeRefusal alphabet form n ≡ 19
+  pub numbers-lacking : openingRefusal alphabet form ≡ 0 → n < countsPerRule * ruleCount form → sizeRefusal alphabet form n ≡ 19
   unfolding sizeRefusal
-  numbers-lacking e l = rw (e, lt-ltb n (2 * ruleCount form) l)
+  numbers-lacking e l = rw (e, lt-ltb n (countsPerRule * ruleCount form) l)
 
-  pub numbers-enough : openingRefusal alphabet form ≡ 0 → 2 * ruleCount form ≤ n → sizeRefusal alphabet form n ≡ 0
+  pub numbers-enough : openingRefusal alphabet form ≡ 0 → countsPerRule * ruleCount form ≤ n → sizeRefusal alphabet form n ≡ 0
   unfolding sizeRefusal
-  numbers-enough e l = rw (e, le-ltb n (2 * ruleCount form) l)
+  numbers-enough e l = rw (e, le-ltb n (countsPerRule * ruleCount form) l)
 
 -- what passes size
 pub record Sizable (alphabet form : List ℕ) (n : ℕ) : Type 0 where
   pub ranked : alphabetRefusal alphabet ≡ 0
   pub valid : formRefusal alphabet form ≡ 0
-  pub room : 2 * ruleCount form ≤ n
+  pub room : countsPerRule * ruleCount form ≤ n
 
 pub size-passed : (alphabet form : List ℕ) (n : ℕ) → sizeRefusal alphabet form n ≡ 0 → Sizable alphabet form n
 unfolding sizeRefusal
 size-passed alphabet form n e =
     let (opened, r) = none-before (openingRefusal alphabet form) _ e in
     let (a, f) = opening-passed alphabet form opened in
-    record { ranked = a; valid = f; room = ltb-false _ _ (no-row 18 (ltb n (2 * ruleCount form)) 0 r .0) }
+    record { ranked = a; valid = f; room = ltb-false _ _ (no-row 18 (ltb n (countsPerRule * ruleCount form)) 0 r .0) }
 
 -- the counts are worked out in front of some numbers
-pub counted-form : {alphabet form : List ℕ} {n : ℕ} → Sizable alphabet form n → (numbers rest : List ℕ) → numbers ≡ countsOf alphabet form ++ rest
-    → CountedForm alphabet form numbers
-counted-form {alphabet} {form} p numbers rest begins = record {
-  ranked = p .ranked;
-  valid = p .valid;
-  counted = ap (take (2 * ruleCount form)) begins ∙ take-at (countsOf alphabet form) rest (2 * ruleCount form) (length-counts alphabet form);
-}
+pub counted-table : {alphabet table : List ℕ} → ValidTable alphabet table → (numbers rest : List ℕ) → numbers ≡ rulesCounts (tableRules alphabet table) ++ rest
+    → CountedTable alphabet table numbers
+counted-table {alphabet} {table} v numbers rest begins =
+    let counts = rulesCounts (tableRules alphabet table) in
+    let n = countsPerRule * tableCount table in
+    record {
+      valid = v;
+      counted = ap (take n) begins ∙ take-at counts rest n (omega (arith, length-counts (tableRules alphabet table), rules-counted alphabet table v));
+    }
 
 -- and copied to other numbers
-pub counts-copied : {alphabet form counts : List ℕ} → CountedForm alphabet form counts → (numbers : List ℕ) (n : ℕ) → n ≡ ruleCount form
-    → take (2 * n) counts ++ drop (2 * n) numbers ≡ countsOf alphabet form ++ drop (2 * ruleCount form) numbers
-counts-copied {form = form} known numbers n e = rw e (ap (λ xs. xs ++ drop (2 * ruleCount form) numbers) (known .counted))
+pub counts-copied : {alphabet table counts : List ℕ} → CountedTable alphabet table counts → (numbers : List ℕ) (n : ℕ) → n ≡ tableCount table
+    → take (countsPerRule * n) counts ++ drop (countsPerRule * n) numbers ≡ rulesCounts (tableRules alphabet table) ++ drop (countsPerRule * n) numbers
+counts-copied {table = table} known numbers n e = rw e (ap (λ xs. xs ++ drop (countsPerRule * tableCount table) numbers) (known .counted))
 
 -- what is left in the numbers that are lent where nothing is refused
-pub counts-left : (alphabet form numbers : List ℕ) {refusal : ℕ} {exit : List ℕ} → refusal ≡ 0 → exit ≡ countsOf alphabet form ++ drop (2 * ruleCount form) numbers
-    → exit ≡ lentAfter refusal (countsOf alphabet form) numbers
-counts-left alphabet form numbers {refusal = refusal} none e =
-    let counts = countsOf alphabet form in
-    lent-written {r = refusal} counts numbers refl none (e ∙ ap (λ n. counts ++ drop n numbers) (sym (length-counts alphabet form)))
+pub counts-left : {alphabet table : List ℕ} → ValidTable alphabet table → (numbers : List ℕ) (n : ℕ) {refusal : ℕ} {exit : List ℕ} → n ≡ tableCount table → refusal ≡ 0
+    → exit ≡ rulesCounts (tableRules alphabet table) ++ drop (countsPerRule * n) numbers → exit ≡ lentAfter refusal (rulesCounts (tableRules alphabet table)) numbers
+counts-left {alphabet} {table} v numbers n {refusal = refusal} count none e =
+    let counts = rulesCounts (tableRules alphabet table) in
+    let all : countsPerRule * n ≡ length counts = omega (arith, length-counts (tableRules alphabet table), rules-counted alphabet table v) in
+    lent-written {r = refusal} counts numbers refl none (e ∙ ap (λ n. counts ++ drop n numbers) all)
 
 -- what size answers, and what it leaves
 module _ (alphabet form numbers : List ℕ) where

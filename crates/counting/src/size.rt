@@ -16,7 +16,7 @@ pub fn check_size(alphabet: &[u8], form: &[u8], numbers: usize) -> u8
     if refusal != 0 {
         return refusal;
     }
-    if numbers < 2 * layout::rule_count(form) {
+    if numbers < counts::COUNTS * layout::rule_count(form) {
         return 19;
     }
     0
@@ -31,7 +31,12 @@ pub fn size(alphabet: &[u8], form: &[u8], counts: &mut [u64]) -> Size
     if refusal != 0 {
         return Size::Refused(refusal);
     }
-    counts::count_nodes(alphabet, form, counts);
+    counts::count_nodes(
+        alphabet,
+        layout::table_of(form),
+        layout::rule_count(form),
+        counts,
+    );
     let nodes = counts::own_of(counts, layout::start_of(form));
     if nodes == counts::LARGEST {
         return Size::Over;

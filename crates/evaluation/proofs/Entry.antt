@@ -1,4 +1,4 @@
--- The entry of a rule that was read from a form that passes: by its kind, from the entries of its slots.
+-- The entry of a rule that was read from a valid table: by its kind, from the entries of its slots.
 use mathlib.Core.Path.{_≡_, refl, ap, sym, subst, _∙_}
 use mathlib.Core.List.{List, [], _∷_, _++_}
 use Prim.Native.Nat.{ℕ, zero, suc, _+_, _-_, _%_, _≤_, _<_}
@@ -6,19 +6,17 @@ use native.Mathlib.Omega.{arith}
 use lib.ListN.{length, take}
 use Rattle.terms.specs.Test.{tabulate}
 use Rattle.terms.specs.Grammar.{terminalRank}
-use Rattle.terms.specs.Form.{Rule, whole, Fits}
+use Rattle.terms.specs.Form.{Rule, Fits}
 use Rattle.terms.specs.Relation.{statesAt, relationOf, applyBits, composeBits}
 use Rattle.terms.specs.Sheet.{transitionsOf}
-use Rattle.terms.specs.FormBytes.{ruleCount, slotOf, ruleOfKind, formRule, formRules}
-use Rattle.terms.proofs.Tabulate.{length-tabulate, getD-tabulate}
-use Rattle.terms.proofs.Sheet.Passed.{alphabet-passed}
-use Rattle.terms.proofs.Form.Bytes.{FormPassed, rank-le, form-passed}
+use Rattle.terms.specs.FormBytes.{tableCount, slotOf, ruleOfKind, tableRule, tableRules}
+use Rattle.terms.proofs.Tabulate.{length-tabulate, take-tabulate, tabulate-at}
+use Rattle.forms.proofs.Rules.{rank-low, fits}
 use Rattle.transitions.specs.Step.{Ready, closedStep, openStep}
 use Rattle.transitions.proofs.Node.{closed-relation, open-relation}
 use Rattle.form_bytes.specs.declared.rule.FormRule.{FormRule}
 use Rattle.form_bytes.specs.Fields.{fieldsAt}
 use Rattle.evaluation.specs.Private.Evaluable.{Evaluable}
-use Rattle.terms.proofs.Tabulate.{take-tabulate, tabulate-at}
 
 -- Of the states of four slots, as many as the rank are those of the node's children.
 
@@ -40,34 +38,28 @@ module _ (w slot : ℕ → ℕ) (n : ℕ) (low : n ≤ 4) where
       rw (closed-slots, states-tabulate w n slot, states-tabulate w (h - 1) slot, states-tabulate w (n - h) (λ j. slot (h + j)))
       (subst (λ (k : ℕ). tabulate n s ≡ tabulate (h - 1) s ++ (s (h - 1) ∷ tabulate (n - k) (λ j. s (k + j)))) e (tabulate-at (h - 1) n s (omega arith)))
 
--- A rule that was read from a form that passes: what a step through the automaton asks, and the entry, by its kind.
+-- A rule that was read from a valid table: what a step through the automaton asks, and the entry, by its kind.
 
-pub passed : {alphabet automaton form table links : List ℕ} → Evaluable alphabet automaton form table links → FormPassed alphabet form
-passed e = form-passed _ _ (alphabet-passed _ (e .alphabetPasses)) (e .formPasses)
-
-module _ {alphabet automaton form table links : List ℕ} (e : Evaluable alphabet automaton form table links) (i : ℕ) (l : i < ruleCount form) (rule : FormRule) (read : rule ≡ fieldsAt form i) where
+module _ {alphabet automaton table spread links : List ℕ} (e : Evaluable alphabet automaton table spread links) (i : ℕ) (l : i < tableCount table) (rule : FormRule) (read : rule ≡ fieldsAt table i) where
   abbrev rank : ℕ
   rank = terminalRank alphabet (rule .terminal .0)
 
   low : rank ≤ 4
-  low = rank-le alphabet (alphabet-passed alphabet (e .alphabetPasses) .ranks) (rule .terminal .0)
+  low = rank-low alphabet table (e .valid) (rule .terminal .0)
 
   -- the rule by its fields
   abbrev fields : Rule
-  fields = ruleOfKind (rule .kind) (rule .terminal .0) rank (rule .hole) (slotOf form i)
+  fields = ruleOfKind (rule .kind) (rule .terminal .0) rank (rule .hole) (slotOf table i)
 
-  same-rule : formRule alphabet form i ≡ fields
-  unfolding formRule
+  same-rule : tableRule alphabet table i ≡ fields
+  unfolding tableRule
   same-rule = rw read
 
-  rule-fits : Fits alphabet (formRules alphabet form) i fields
-  unfolding formRules
-  rule-fits =
-      subst (Fits alphabet (formRules alphabet form) i) (getD-tabulate (ruleCount form) (formRule alphabet form) (whole 0 []) i l ∙ same-rule)
-      (passed e .valid .fits i (omega (arith, passed e .count)))
+  rule-fits : Fits alphabet (tableRules alphabet table) i fields
+  rule-fits = rw same-rule at (fits alphabet table (e .valid) i l)
 
   ready : rule .terminal .0 < length alphabet → Ready alphabet automaton links (rule .terminal .0)
-  ready known = record { alphabetPasses = e .alphabetPasses; automatonPasses = e .automatonPasses; linked = e .linked; terminal = known }
+  ready known = record { alphabetPasses = e .valid .ranked; automatonPasses = e .automatonPasses; linked = e .linked; terminal = known }
 
   pub whole-ready : rule .kind ≡ 0 → Ready alphabet automaton links (rule .terminal .0)
   whole-ready kind = ready ((rw kind at rule-fits) .1 .known)
@@ -75,30 +67,30 @@ module _ {alphabet automaton form table links : List ℕ} (e : Evaluable alphabe
   pub pierced-ready : rule .kind ≡ 1 → Ready alphabet automaton links (rule .terminal .0) × (1 ≤ rule .hole) × (rule .hole ≤ rank)
   pierced-ready kind =
       let arity = (rw kind at rule-fits) .2 in
-      let before = length-tabulate (rule .hole - 1) (slotOf form i) in
-      let behind = length-tabulate (rank - rule .hole) (λ j. slotOf form i (rule .hole + j)) in
+      let before = length-tabulate (rule .hole - 1) (slotOf table i) in
+      let behind = length-tabulate (rank - rule .hole) (λ j. slotOf table i (rule .hole + j)) in
       (ready (arity .known), omega (arith, arity .rank, before, behind), omega (arith, arity .rank, before, behind))
 
   module _ (w : ℕ → ℕ) where
     abbrev entry : ℕ
-    entry = relationOf (transitionsOf alphabet automaton) (formRule alphabet form i) w
+    entry = relationOf (transitionsOf alphabet automaton) (tableRule alphabet table i) w
 
     -- the states of the four slots
     abbrev sets : List ℕ
     sets = statesAt w (rule .slot0 .0 ∷ rule .slot1 .0 ∷ rule .slot2 .0 ∷ rule .slot3 .0 ∷ [])
 
-    same-sets : sets ≡ statesAt w (tabulate 4 (slotOf form i))
+    same-sets : sets ≡ statesAt w (tabulate 4 (slotOf table i))
     unfolding tabulate
     same-sets = rw read
 
     pub whole-entry : rule .kind ≡ 0 → closedStep alphabet automaton (rule .terminal .0) sets ≡ entry
     whole-entry kind =
         rw (same-rule, kind, same-sets)
-        (closed-relation alphabet automaton _ (tabulate rank (slotOf form i)) (rule .terminal .0) w (closed-slots w (slotOf form i) rank low))
+        (closed-relation alphabet automaton _ (tabulate rank (slotOf table i)) (rule .terminal .0) w (closed-slots w (slotOf table i) rank low))
 
     pub pierced-entry : rule .kind ≡ 1 → openStep alphabet automaton (rule .terminal .0) sets (rule .hole - 1) ≡ entry
     pierced-entry kind =
-        let slot = slotOf form i in
+        let slot = slotOf table i in
         let h = rule .hole in
         let ls = tabulate (h - 1) slot in
         let rs = tabulate (rank - h) (λ j. slot (h + j)) in

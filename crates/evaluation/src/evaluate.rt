@@ -14,14 +14,16 @@ use transitions::step::step_closed;
 use transitions::step::step_open;
 ghost use mathlib.Core.Path.{_≡_};
 ghost use mathlib.Core.List.{[], _∷_};
-ghost use Prim.Native.Nat.{_%_, _<_};
+ghost use Prim.Native.Nat.{_%_, _<_, _≤_};
 ghost use lib.ListN.{length};
 ghost use Rattle.terms.specs.Relation.{statesAt, relationOf};
 ghost use Rattle.terms.specs.Sheet.{transitionsOf};
-ghost use Rattle.terms.specs.FormBytes.{ruleCount, formRule};
+ghost use Rattle.terms.specs.FormBytes.{tableCount, tableRule};
+ghost use Rattle.terms.specs.Check.{automatonRefusal};
 ghost use Rattle.terms.specs.Calls.{lentAfter, evaluationRefusal, relationsOf, formMask};
-ghost use Rattle.evaluation.specs.Private.Evaluable.{Evaluable, entryIn};
-ghost use Rattle.evaluation.specs.Evaluation.{evaluation};
+ghost use Rattle.forms.specs.Private.Table.{ValidTable};
+ghost use Rattle.evaluation.specs.Private.Evaluable.{Evaluable, entryIn, relationsIn};
+ghost use Rattle.evaluation.specs.Evaluation.{evaluation, RightByRuns};
 
 // What evaluating a form answers: the refusal, or the mask of the states at the root of the form's tree.
 pub enum Evaluation {
@@ -85,16 +87,16 @@ fn slot_states(relations: &[u64], rule: FormRule) -> [u8; 4]
 fn relation_of(
     alphabet: &[u8],
     automaton: &[u8],
-    form: &[u8],
-    table: &[u64; 256],
+    table: &[u8],
+    spread: &[u64; 256],
     links: &[u8; 511],
     relations: &[u64],
     number: Rule,
 ) -> u64
-    requires { ⌜ Evaluable (now alphabet) (now automaton) (now form) (now table) (now links) × (number .0 < ruleCount (now form)) ⌝ }
-    ensures { λ r. ⌜ r ≡ relationOf (transitionsOf (now (alphabet .entry)) (now (automaton .entry))) (formRule (now (alphabet .entry)) (now (form .entry)) (number .0)) (entryIn (now (relations .entry))) ⌝ }
+    requires { ⌜ Evaluable (now alphabet) (now automaton) (now table) (now spread) (now links) × (number .0 < tableCount (now table)) ⌝ }
+    ensures { λ r. ⌜ r ≡ relationOf (transitionsOf (now (alphabet .entry)) (now (automaton .entry))) (tableRule (now (alphabet .entry)) (now (table .entry)) (number .0)) (entryIn (now (relations .entry))) ⌝ }
 {
-    let rule = rule_at(form, number);
+    let rule = rule_at(table, number);
     let kind = rule.kind;
     if kind < 2 {
         let sets = slot_states(relations, rule);
@@ -107,32 +109,37 @@ fn relation_of(
     let outer = entry_of(relations, rule.slot0);
     let inner = entry_of(relations, rule.slot1);
     if kind == 2 {
-        return apply(table, outer, inner);
+        return apply(spread, outer, inner);
     }
-    compose(table, outer, inner)
+    compose(spread, outer, inner)
 }
 
-// The entries of all rules, from the lowest on, into a lent slice.
-fn write_relations(alphabet: &[u8], automaton: &[u8], form: &[u8], relations: &mut [u64])
-    requires { ⌜ evaluationRefusal (now alphabet) (now automaton) (now form) (length (now relations)) ≡ 0 ⌝ }
-    ensures { λ _. ⌜ now (relations .exit) ≡ lentAfter 0 (relationsOf (now (alphabet .entry)) (now (automaton .entry)) (now (form .entry))) (now (relations .entry)) ⌝ }
+// The entries of all rules of a table, from the lowest on, into a lent slice.
+fn write_relations(
+    alphabet: &[u8],
+    automaton: &[u8],
+    table: &[u8],
+    rules: usize,
+    relations: &mut [u64],
+)
+    requires { ⌜ ValidTable (now alphabet) (now table) × (automatonRefusal (now alphabet) (now automaton) ≡ 0) × (rules ≡ tableCount (now table)) × (rules ≤ length (now relations)) ⌝ }
+    ensures { λ _. ⌜ now (relations .exit) ≡ lentAfter 0 (relationsIn (now (alphabet .entry)) (now (automaton .entry)) (now (table .entry))) (now (relations .entry)) ⌝ }
 {
-    let table = spread_table();
+    let spread = spread_table();
     let links = link_transitions(automaton);
-    let count = layout::rule_count(form);
-    let mut i = 0;
-    while i < count {
+    let mut number: u16 = 0;
+    while (number as usize) < rules {
         let relation = relation_of(
             alphabet,
             automaton,
-            form,
-            &table,
+            table,
+            &spread,
             &links,
             relations,
-            Rule(i as u16),
+            Rule(number),
         );
-        relations[i] = relation;
-        i += 1;
+        relations[number as usize] = relation;
+        number += 1;
     }
 }
 
@@ -142,15 +149,19 @@ pub fn evaluate_checked(alphabet: &[u8], automaton: &[u8], form: &[u8], relation
     ensures { λ r. ⌜ r ≡ formMask (now (alphabet .entry)) (now (automaton .entry)) (now (form .entry)) ⌝ }
     ensures { λ _. ⌜ now (relations .exit) ≡ lentAfter 0 (relationsOf (now (alphabet .entry)) (now (automaton .entry)) (now (form .entry))) (now (relations .entry)) ⌝ }
 {
-    write_relations(alphabet, automaton, form, relations);
-    states_of(relations, layout::start_of(form))
+    let table = layout::table_of(form);
+    let rules = layout::rule_count(form);
+    let start = layout::start_of(form);
+    write_relations(alphabet, automaton, table, rules, relations);
+    states_of(relations, start)
 }
 
 // Evaluates a form: refused by 3 and 4 for the alphabet, 14 to 16 for the automaton, 18 for the form, 19 for a slice with fewer numbers than the form has rules.
-// The slice ends with the rules' entries, its later numbers kept.
+// The slice ends with the rules' entries, its later numbers kept. The entries and the mask are what runs say.
 pub fn evaluate(alphabet: &[u8], automaton: &[u8], form: &[u8], relations: &mut [u64]) -> Evaluation
-    ensures { λ r. ⌜ r ≡ evaluation (now (alphabet .entry)) (now (automaton .entry)) (now (form .entry)) (length (now (relations .entry))) ⌝ }
-    ensures { λ r. ⌜ now (relations .exit) ≡ lentAfter (evaluationRefusal (now (alphabet .entry)) (now (automaton .entry)) (now (form .entry)) (length (now (relations .entry)))) (relationsOf (now (alphabet .entry)) (now (automaton .entry)) (now (form .entry))) (now (relations .entry)) ⌝ }
+    ensures answer { λ r. ⌜ r ≡ evaluation (now (alphabet .entry)) (now (automaton .entry)) (now (form .entry)) (length (now (relations .entry))) ⌝ }
+    ensures relations { λ _. ⌜ now (relations .exit) ≡ lentAfter (evaluationRefusal (now (alphabet .entry)) (now (automaton .entry)) (now (form .entry)) (length (now (relations .entry)))) (relationsOf (now (alphabet .entry)) (now (automaton .entry)) (now (form .entry))) (now (relations .entry)) ⌝ }
+    ensures runs { λ r. ⌜ RightByRuns (now (alphabet .entry)) (now (automaton .entry)) (now (form .entry)) r (now (relations .exit)) ⌝ }
 {
     let refusal = evaluation_refusal(alphabet, automaton, form, relations.len());
     if refusal != 0 {

@@ -24,5 +24,5 @@ pub fn read_rule(alphabet: &[u8], form: &[u8], number: Rule) -> RuleReading
     if layout::rule_count(form) <= number.0 as usize {
         return RuleReading::Refused(21);
     }
-    RuleReading::Read(rule_at(form, number))
+    RuleReading::Read(rule_at(layout::table_of(form), number))
 }

@@ -6,7 +6,7 @@ use native.Mathlib.Omega.{arith}
 use borrow.Author.Tests.{lt-ltb, le-ltb}
 use lib.ListN.{length, take, drop, length-drop}
 use lib.Seq.{length-take-le}
-use Rattle.terms.specs.FormBytes.{ruleOffset, mostFormRules}
+use Rattle.terms.specs.FormBytes.{headLength, formLength, tableOf, mostFormRules}
 use Rattle.terms.specs.Sheet.{bodyOffset, body, alphabetOf, rulesBody, rulesOf}
 use Rattle.terms.specs.Check.{sheetRefusal}
 use Rattle.terms.specs.Calls.{lentAfter, rulesAsked, makingRefusal}
@@ -78,27 +78,30 @@ module _ {s : List ℕ} {l : Layout} (r : SheetRead s l) where
   rules-part = rw (r .automaton, ← starts) (sym (where-bodies .rules))
 
   -- the refusal of a slice that is too short, and none
-  pub too-short : (room : ℕ) → room < ruleOffset (l .asked) → 17 ≡ makingRefusal s room
+  pub too-short : (room : ℕ) → room < formLength (l .asked) → 17 ≡ makingRefusal s room
   unfolding makingRefusal
-  too-short room h = rw (r .passed, lt-ltb room (ruleOffset (rulesAsked s)) (rw (r .asked) at h))
+  too-short room h = rw (r .passed, lt-ltb room (formLength (rulesAsked s)) (rw (r .asked) at h))
 
-  pub long-enough : (room : ℕ) → ruleOffset (l .asked) ≤ room → 0 ≡ makingRefusal s room
+  pub long-enough : (room : ℕ) → formLength (l .asked) ≤ room → 0 ≡ makingRefusal s room
   unfolding makingRefusal
-  long-enough room h = rw (r .passed, le-ltb room (ruleOffset (rulesAsked s)) (rw (r .asked) at h))
+  long-enough room h = rw (r .passed, le-ltb room (formLength (rulesAsked s)) (rw (r .asked) at h))
 
-  -- the parts are a grammar over the alphabet
-  pub grammar : (form : List ℕ) → ruleOffset (l .asked) ≤ length form → {xs ys : List ℕ} → xs ≡ alphabetOf s → ys ≡ body s 1 → Grammar form xs ys (l .rules)
+  -- the parts are a grammar over the alphabet, and the table has room for its form's rules
+  pub grammar : (form : List ℕ) → formLength (l .asked) ≤ length form → {xs ys : List ℕ} → xs ≡ alphabetOf s → ys ≡ body s 1
+      → (headLength ≤ length form) × Grammar (tableOf form) xs ys (l .rules)
   unfolding rulesOf
   grammar form h a b =
       let p = rules-passed (alphabetOf s) (body s 1) (passed .rules) in
-      rw (a, b)
-      record {
-        alphabet = passed .alphabet;
-        proper = p .proper;
-        count = r .rules;
-        few = p .few-nodes;
-        room = omega (arith, r .asked, bound-linear (alphabetOf s) (rulesBody (body s 1) .rules) (p .proper));
-      }
+      rw (a, b) (
+        omega arith,
+        record {
+          alphabet = passed .alphabet;
+          proper = p .proper;
+          count = r .rules;
+          few = p .few-nodes;
+          room = omega (arith, r .asked, bound-linear (alphabetOf s) (rulesBody (body s 1) .rules) (p .proper), length-drop headLength form);
+        },
+      )
 
   -- a form of the parts is a form of the sheet
   pub sheet-made : {xs ys : List ℕ} {n : ℕ} {exit entry : List ℕ} → xs ≡ alphabetOf s → ys ≡ body s 1 → FormWritten xs (rulesBody ys .rules) n exit entry → FormWritten (alphabetOf s) (rulesOf s) n exit entry

@@ -10,6 +10,8 @@ use sheets::sheet::Reading;
 use sheets::sheet::read_sheet;
 ghost use mathlib.Core.Path.{_≡_};
 ghost use lib.ListN.{length};
+ghost use Prim.Native.Nat.{_≤_};
+ghost use Rattle.terms.specs.FormBytes.{headLength, tableOf};
 ghost use Rattle.terms.specs.Calls.{makingRefusal};
 ghost use Rattle.terms.specs.Sheet.{alphabetOf, rulesBody, rulesOf};
 ghost use Rattle.right_sides.specs.Rules.{Grammar};
@@ -24,10 +26,10 @@ pub enum Making {
 
 // The form of the rules of a body, whose length is the answer; later bytes are kept.
 fn write_form(form: &mut [u8], alphabet: &[u8], body: &[u8], rules: usize) -> usize
-    requires { ⌜ Grammar (now form) (now alphabet) (now body) rules ⌝ }
+    requires { ⌜ (headLength ≤ length (now form)) × Grammar (tableOf (now form)) (now alphabet) (now body) rules ⌝ }
     ensures { λ r. ⌜ FormWritten (now (alphabet .entry)) (rulesBody (now (body .entry)) .rules) r (now (form .exit)) (now (form .entry)) ⌝ }
 {
-    let made = make_rules(form, alphabet, body, rules);
+    let made = make_rules(&mut form[HEAD..], alphabet, body, rules);
     let count = made.count.0 as usize;
     let start = made.start;
     write_head(form, count, start);

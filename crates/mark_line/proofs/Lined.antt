@@ -9,7 +9,7 @@ use lib.ListN.{length, replicate, length-replicate}
 use Rattle.terms.specs.Test.{any}
 use Rattle.terms.specs.Sheet.{Verdict, accepted, declined, sheetTree, sheetMask, sheetVerdict}
 use Rattle.terms.specs.Check.{sheetRefusal}
-use Rattle.terms.specs.FormBytes.{ruleOffset, mostFormRules}
+use Rattle.terms.specs.FormBytes.{formLength, mostFormRules}
 use Rattle.terms.specs.Count.{sizeOf, capped}
 use Rattle.terms.specs.Calls.{rulesAsked, makingRefusal, markingRefusal}
 use Rattle.terms.proofs.Test.{of-true}
@@ -28,14 +28,14 @@ use Rattle.mark_line.specs.declared.line.Line.the-variants.{Refused, Acc
 abbrev pub marked : List ℕ → ℕ → ℕ → ℕ
 marked sheet room numbers = markingRefusal (0 ∷ 0 ∷ 0 ∷ []) sheet room numbers
 
-room-enough : (sheet : List ℕ) (room numbers : ℕ) → room ≡ ruleOffset mostFormRules → numbers ≡ mostFormRules → marked sheet room numbers ≡ sheetRefusal sheet
+room-enough : (sheet : List ℕ) (room numbers : ℕ) → room ≡ formLength mostFormRules → numbers ≡ mostFormRules → marked sheet room numbers ≡ sheetRefusal sheet
 unfolding any markingRefusal makingRefusal
 room-enough sheet room numbers a b = go (sheetRefusal sheet) refl
   where
     go : (n : ℕ) → sheetRefusal sheet ≡ n → marked sheet room numbers ≡ n
     go zero e =
         let small = asked-small sheet e in
-        rw (e, le-ltb room (ruleOffset (rulesAsked sheet)) (omega arith), le-ltb numbers (rulesAsked sheet) (omega arith))
+        rw (e, le-ltb room (formLength (rulesAsked sheet)) (omega arith), le-ltb numbers (rulesAsked sheet) (omega arith))
     go (suc n) e = rw e
 
 -- an answer of marking as a line, with a size
@@ -61,7 +61,7 @@ not-refused (suc k) v mask r e h = absurd (of-true false (ap answered e ∙ h))
 
 -- the slices as they are lent, with room for the largest sheet
 abbrev form : List ℕ
-form = replicate (ruleOffset mostFormRules) 0
+form = replicate (formLength mostFormRules) 0
 
 abbrev relations : List ℕ
 relations = replicate mostFormRules 0
@@ -71,7 +71,7 @@ module _ (sheet : List ℕ) (r : Mark) (answer : orVerdict (marked sheet (length
   refused = marked sheet (length form) (length relations)
 
   only-sheet : refused ≡ sheetRefusal sheet
-  only-sheet = room-enough sheet (length form) (length relations) (length-replicate {A = ℕ} (ruleOffset mostFormRules) 0) (length-replicate {A = ℕ} mostFormRules 0)
+  only-sheet = room-enough sheet (length form) (length relations) (length-replicate {A = ℕ} (formLength mostFormRules) 0) (length-replicate {A = ℕ} mostFormRules 0)
 
   pub lined : line r (capped (sizeOf (sheetTree sheet))) ≡ lineOf sheet
   lined =

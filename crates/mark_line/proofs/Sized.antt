@@ -10,10 +10,10 @@ use lib.ListN.{length, take, drop}
 use lib.Seq.{getD-take, length-take-le}
 use Rattle.terms.specs.Bytes.{word}
 use Rattle.terms.specs.Sheet.{bodyOffset, alphabetOf, sheetTree}
-use Rattle.terms.specs.FormBytes.{ruleCount, ruleOffset}
+use Rattle.terms.specs.FormBytes.{headLength, formLength, ruleCount, mostFormRules}
 use Rattle.terms.specs.Count.{sizeOf, largest, capped, sizeAnswer}
 use Rattle.terms.specs.Count as count
-use Rattle.terms.specs.Calls.{sizeRefusal, unfoldingRefusal}
+use Rattle.terms.specs.Calls.{countsPerRule, sizeRefusal, unfoldingRefusal}
 use Rattle.terms.proofs.Demand.{form-meets}
 use Rattle.terms.proofs.Refusal.{none-before}
 use Rattle.terms.proofs.Form.Bytes.{form-passed}
@@ -30,9 +30,9 @@ pub record Parts (sheet form : List ℕ) : Type 0 where
   pub first : 12 ≤ bodyOffset sheet 1
   pub last : bodyOffset sheet 1 ≤ length sheet
   pub alphabet : take (bodyOffset sheet 1 - 12) (drop 12 sheet) ≡ alphabetOf sheet
-  pub head : 4 ≤ length form
-  pub end : ruleOffset (ruleCount form) ≤ length form
-  pub call : sizeCall (alphabetOf sheet) (take (ruleOffset (ruleCount form)) form) 4096 ≡ sized 0 (sizeAnswer (sizeOf (sheetTree sheet)))
+  pub head : headLength ≤ length form
+  pub end : formLength (ruleCount form) ≤ length form
+  pub call : sizeCall (alphabetOf sheet) (take (formLength (ruleCount form)) form) (countsPerRule * mostFormRules) ≡ sized 0 (sizeAnswer (sizeOf (sheetTree sheet)))
 
 count-taken : (n : ℕ) (form : List ℕ) → 2 ≤ n → ruleCount (take n form) ≡ ruleCount form
 unfolding word
@@ -47,9 +47,9 @@ parts sheet form m =
     let here = form-passed (alphabetOf sheet) (take n form) (alphabet-passed (alphabetOf sheet) (passed .alphabet)) (m .formed .valid) in
     let all : length (take n form) ≡ n = length-take-le n form (m .within) in
     let count = count-taken n form (omega (arith, here .long)) in
-    let end : ruleOffset (ruleCount form) ≡ n = omega (arith, here .long, count, all) in
+    let end : formLength (ruleCount form) ≡ n = omega (arith, here .long, count, all) in
     let demand = form-meets sheet (m .passes) (take n form) (m .formed) in
-    let none = none-before (sizeRefusal (alphabetOf sheet) (take n form) 4096) _ (demand .unfolded 4096 (sizeOf (sheetTree sheet)) (omega (arith, here .few)) (omega arith)) .0 in
+    let none = none-before (sizeRefusal (alphabetOf sheet) (take n form) (countsPerRule * mostFormRules)) _ (demand .unfolded (countsPerRule * mostFormRules) (sizeOf (sheetTree sheet)) (omega (arith, here .few)) (omega arith)) .0 in
     record {
       long = passed .long;
       first = bodies .after-contents;
@@ -78,7 +78,7 @@ size-number : (s : ℕ) (r : Size) → sized 0 (sizeAnswer s) ≡ r → numberOf
 size-number s r e = subst (λ (x : Size). numberOf x ≡ capped s) e (capped-number s)
 
 -- the same for what the call was given
-pub size-is : (sheet form : List ℕ) → Parts sheet form → (rules end numbers : ℕ) (r : Size) {e : Size} → rules ≡ bodyOffset sheet 1 → end ≡ ruleOffset (ruleCount form) → numbers ≡ 4096
+pub size-is : (sheet form : List ℕ) → Parts sheet form → (rules end numbers : ℕ) (r : Size) {e : Size} → rules ≡ bodyOffset sheet 1 → end ≡ formLength (ruleCount form) → numbers ≡ countsPerRule * mostFormRules
     → r ≡ sizeCall (take (rules - 12) (drop 12 sheet)) (take end form) numbers → r ≡ e → numberOf e ≡ capped (sizeOf (sheetTree sheet))
 size-is sheet form p rules end numbers r {e} here there many call is =
     let same = rw (here, there, many, p .alphabet, p .call) at call in

@@ -2,6 +2,7 @@
 use checks::bytes::word;
 use checks::limits::CONTENTS;
 use counting::answer::Size;
+use counting::counts::COUNTS;
 use counting::size::size;
 use form_bytes::layout;
 use marking::answer::Mark;
@@ -31,7 +32,7 @@ fn size_of(sheet: &[u8], form: &[u8]) -> u64
 {
     let rules = word(sheet, 4);
     let end = layout::HEAD + layout::RULE * layout::rule_count(form);
-    let mut counts = [0u64; 2 * MOST_ASKED];
+    let mut counts = [0u64; COUNTS * MOST_ASKED];
     match size(&sheet[CONTENTS..rules], &form[..end], &mut counts) {
         Size::Refused(_) => 0,
         Size::Exact(nodes) => nodes,

@@ -9,7 +9,7 @@ use lib.ListN.{length, take, drop}
 use Rattle.terms.specs.Test.{any}
 use Rattle.terms.specs.Tree.{preorder}
 use Rattle.terms.specs.Sheet.{alphabetOf, rulesOf, automatonOf, finals, Verdict, sheetTree, sheetMask, sheetVerdict}
-use Rattle.terms.specs.FormBytes.{ruleOffset}
+use Rattle.terms.specs.FormBytes.{formLength}
 use Rattle.terms.specs.Calls.{lentAfter, rulesAsked, full, markingRefusal, makingRefusal, evaluationRefusal, relationsOf, formMask, walkMask}
 use Rattle.terms.specs.Demand.{FormOfSheet, Demand3}
 use Rattle.terms.proofs.Refusal.{is-first}
@@ -57,14 +57,14 @@ module _ (s : List ℕ) (room numbers : ℕ) where
   not-made e h = rw none-full (is-first _ e h)
 
 module _ {s : List ℕ} {l : Layout} (read : SheetRead s l) (room numbers : ℕ) where
-  pub form-short : room < ruleOffset (l .asked) → 17 ≡ markingRefusal [] s room numbers
+  pub form-short : room < formLength (l .asked) → 17 ≡ markingRefusal [] s room numbers
   form-short h = not-made s room numbers (too-short read room h) (λ e. omega arith)
 
-  pub numbers-short : ruleOffset (l .asked) ≤ room → numbers < l .asked → 19 ≡ markingRefusal [] s room numbers
+  pub numbers-short : formLength (l .asked) ≤ room → numbers < l .asked → 19 ≡ markingRefusal [] s room numbers
   unfolding markingRefusal
   numbers-short h k = rw (none-full, sym (long-enough read room h), lt-ltb numbers (rulesAsked s) (rw (read .asked) at k))
 
-  pub none-short : ruleOffset (l .asked) ≤ room → l .asked ≤ numbers → 0 ≡ markingRefusal [] s room numbers
+  pub none-short : formLength (l .asked) ≤ room → l .asked ≤ numbers → 0 ≡ markingRefusal [] s room numbers
   unfolding markingRefusal
   none-short h k = rw (none-full, sym (long-enough read room h), le-ltb numbers (rulesAsked s) (rw (read .asked) at k))
 

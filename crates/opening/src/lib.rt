@@ -50,10 +50,10 @@ pub fn rule_of(form: &[u8], rules: usize, refusal: u8, number: Rule) -> RuleRead
     if rules <= place {
         return RuleReading::Refused(NO_RULE);
     }
-    if form.len() < layout::HEAD + layout::RULE * place + layout::RULE {
+    if form.len() < layout::HEAD + layout::RULE * (place + 1) {
         return RuleReading::Refused(NO_RULE);
     }
-    RuleReading::Read(rule_at(form, number))
+    RuleReading::Read(rule_at(layout::table_of(form), number))
 }
 
 // Opens a form: refused by 3 and 4 for the alphabet, 18 for the form.

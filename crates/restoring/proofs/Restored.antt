@@ -7,8 +7,8 @@ use lib.ListN.{length, take}
 use lib.Seq.{take-append-seam}
 use Rattle.terms.specs.Tree.{preorder}
 use Rattle.terms.specs.Sheet.{sheetTree, wrapped}
-use Rattle.terms.specs.FormBytes.{ruleCount, ruleOffset, formTree}
-use Rattle.terms.specs.Calls.{rulesAsked, unfoldingRefusal, wrapRefusal}
+use Rattle.terms.specs.FormBytes.{ruleCount, formLength, formTree}
+use Rattle.terms.specs.Calls.{rulesAsked, countsPerRule, unfoldingRefusal, wrapRefusal}
 use Rattle.terms.specs.Demand.{FormOfSheet, Demand3}
 use Rattle.terms.proofs.Demand.{making-passes, form-meets}
 use Rattle.terms.proofs.Sheet.Wrap.{Wrapped, wrap-right}
@@ -26,7 +26,7 @@ use Rattle.restoring.specs.declared.restore.Restoring.{Restoring}
 use Rattle.unfolding.proofs.Unfolded.{unfolds, tree-first}
 
 module _ (alphabet tree automaton : List ℕ) (r : Restoring) (lent left : RestoringSlices) (passes : wrapRefusal alphabet tree automaton (length (lent .sheet)) ≡ 0)
-    (room : ruleOffset (rulesAsked (wrapped alphabet tree automaton)) ≤ length (lent .form)) where
+    (room : formLength (rulesAsked (wrapped alphabet tree automaton)) ≤ length (lent .form)) where
   abbrev sheet : List ℕ
   sheet = wrapped alphabet tree automaton
 
@@ -47,7 +47,7 @@ module _ (alphabet tree automaton : List ℕ) (r : Restoring) (lent left : Resto
     derives : formTree alphabet form ≡ sheetTree sheet
     derives = rw (is .alphabet-given) at (formed .tree)
 
-    module _ (counts : 2 * ruleCount form ≤ length (lent .counts)) (long : length tree ≤ length (lent .tree)) where
+    module _ (counts : countsPerRule * ruleCount form ≤ length (lent .counts)) (long : length tree ≤ length (lent .tree)) where
       unfolding-passes : unfoldingRefusal alphabet form (length (lent .counts)) (length (lent .tree)) ≡ 0
       unfolding-passes = rw (is .alphabet-given) at (demand .unfolded (length (lent .counts)) (length (lent .tree)) counts (omega (arith, size)))
 

@@ -4,8 +4,8 @@ use mathlib.Core.List.{List}
 use Prim.Native.Nat.{ℕ, _*_, _≤_}
 use lib.ListN.{length, take}
 use Rattle.terms.specs.Sheet.{wrapped}
-use Rattle.terms.specs.FormBytes.{ruleCount, ruleOffset}
-use Rattle.terms.specs.Calls.{lentAfter, rulesAsked, wrapRefusal}
+use Rattle.terms.specs.FormBytes.{ruleCount, formLength}
+use Rattle.terms.specs.Calls.{lentAfter, rulesAsked, countsPerRule, wrapRefusal}
 use Rattle.wrapping.specs.Wrap.{wrapping}
 use Rattle.wrapping.specs.declared.wrap.Wrapping.{Wrapping}
 use Rattle.wrapping.specs.declared.wrap.Wrapping.the-variants as wrap
@@ -52,10 +52,10 @@ pub record RestoringCalls (alphabet tree automaton : List ℕ) (r : Restoring) (
 pub record TreeBack (tree : List ℕ) (r : Restoring) (lent left : RestoringSlices) : Type 0 where
   pub written : ℕ
   pub made : r .made ≡ making.Written written
-  pub back : 2 * ruleCount (take written (left .form)) ≤ length (lent .counts) → length tree ≤ length (lent .tree)
+  pub back : countsPerRule * ruleCount (take written (left .form)) ≤ length (lent .counts) → length tree ≤ length (lent .tree)
       → (r .unfolded ≡ nodes.Written (length tree)) × (take (length tree) (left .tree) ≡ tree)
 
 -- the last sentence of demand 2, for every alphabet, tree and automaton that wrap does not refuse, with 4 + 192 · G form bytes lent, whatever the slices held before (01 demand 2)
 abbrev pub Restored : List ℕ → List ℕ → List ℕ → Restoring → RestoringSlices → RestoringSlices → Type 0
 Restored alphabet tree automaton r lent left =
-    wrapRefusal alphabet tree automaton (length (lent .sheet)) ≡ 0 → ruleOffset (rulesAsked (wrapped alphabet tree automaton)) ≤ length (lent .form) → TreeBack tree r lent left
+    wrapRefusal alphabet tree automaton (length (lent .sheet)) ≡ 0 → formLength (rulesAsked (wrapped alphabet tree automaton)) ≤ length (lent .form) → TreeBack tree r lent left

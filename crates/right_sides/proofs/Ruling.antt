@@ -1,4 +1,4 @@
--- The rules one after another: the form holds what the model makes of the first rules, and their cells represent the model's skeletons.
+-- The rules one after another: the table holds what the model makes of the first rules, and their cells represent the model's skeletons.
 use mathlib.Core.Path.{_≡_, refl, sym, subst, ap, _∙_}
 use mathlib.Core.List.{List, [], _∷_}
 use Prim.Native.Nat.{ℕ, zero, suc, _+_, _*_, _-_, _≤_, _<_}
@@ -11,7 +11,7 @@ use Rattle.terms.specs.Form.{formBound}
 use Rattle.terms.specs.declared.Rule.{Rule as Number}
 use Rattle.terms.specs.Sheet.{rulesBody}
 use Rattle.terms.specs.Check.{mostRules}
-use Rattle.terms.specs.FormBytes.{ruleOffset}
+use Rattle.terms.specs.FormBytes.{ruleLength}
 use Rattle.terms.proofs.Sheet.Passed.{alphabet-passed}
 use Rattle.terms.proofs.Form.Bytes.{rank-le}
 use Rattle.skeletons.specs.Skeleton.{param, shut, nth}
@@ -33,7 +33,7 @@ use Rattle.cells.proofs.Reading.{closed-rule-is}
 use Rattle.cells.proofs.Adding.{grown-stands}
 use Rattle.right_sides.proofs.Lower.{old-skeleton, new-skeleton, lower-bounded, lower-light}
 
-module _ {form₀ alphabet body : List ℕ} {count : ℕ} (g : Grammar form₀ alphabet body count) where
+module _ {table₀ alphabet body : List ℕ} {count : ℕ} (g : Grammar table₀ alphabet body count) where
   abbrev rules : List Rule
   rules = rulesBody body .rules
 
@@ -45,22 +45,22 @@ module _ {form₀ alphabet body : List ℕ} {count : ℕ} (g : Grammar form₀ a
   bound r = sideBound rules (r .nodes)
 
   -- the first i rules are made, and the next one's bytes start at a place
-  pub record Making (at i : ℕ) (form space : List ℕ) (free : Free) (ranks roots : List ℕ) : Type 0 where
+  pub record Making (at i : ℕ) (table space : List ℕ) (free : Free) (ranks roots : List ℕ) : Type 0 where
     pub nodes : ℕ
     pub passed : Passed body at i nodes
     pub rest : drop i rules ≡ rulesBody (drop at body) .rules
     pub ranked : length ranks ≡ mostRules
     pub known : Known space free ranks roots rules i (skeletonOf (made i))
-    pub held : Holds form (made i .rules)
+    pub held : Holds table (made i .rules)
     pub counted : free .rule .0 ≡ length (made i .rules)
     pub few-rules : free .rule .0 + sumRules bound (drop i rules) ≤ formBound rules
     pub few-cells : free .cell ≤ 4 + 4 * nodes
     pub all : length space ≡ spaceLength
-    pub long : length form ≡ length form₀
-    pub kept : (k : ℕ) → ruleOffset (free .rule .0) ≤ k → getD form k 0 ≡ getD form₀ k 0
+    pub long : length table ≡ length table₀
+    pub kept : (k : ℕ) → ruleLength * free .rule .0 ≤ k → getD table k 0 ≡ getD table₀ k 0
 
   pub none-made : {space : List ℕ} {free : Free} {ranks roots : List ℕ} → Parameters space → free .rule .0 ≡ 0 → free .cell ≡ 4 → length ranks ≡ mostRules → length roots ≡ mostRules
-      → Making 0 0 form₀ space free ranks roots
+      → Making 0 0 table₀ space free ranks roots
   unfolding scanned
   none-made {space} {free} {ranks} {roots} p rule cell ranked rooted = record {
     nodes = 0;
@@ -77,7 +77,7 @@ module _ {form₀ alphabet body : List ℕ} {count : ℕ} (g : Grammar form₀ a
       four = omega arith;
       parameters = p .parameters;
     };
-    held = held-none form₀;
+    held = held-none table₀;
     counted = rule;
     few-rules = omega arith;
     few-cells = omega arith;
@@ -90,7 +90,7 @@ module _ {form₀ alphabet body : List ℕ} {count : ℕ} (g : Grammar form₀ a
   few-rules = omega (arith, g .count, g .proper .few)
 
   -- one rule, which stands in a span
-  module _ {at i : ℕ} {form space : List ℕ} {free : Free} {ranks roots : List ℕ} (s : Making at i form space free ranks roots) (more : i < count) where
+  module _ {at i : ℕ} {table space : List ℕ} {free : Free} {ranks roots : List ℕ} (s : Making at i table space free ranks roots) (more : i < count) where
     inside : i < length rules
     inside = omega (arith, g .count)
 
@@ -117,7 +117,7 @@ module _ {form₀ alphabet body : List ℕ} {count : ℕ} (g : Grammar form₀ a
       bound-split : sumRules bound (drop i rules) ≡ sideBound rules nodes-there + sumRules bound (drop (suc i) rules)
       bound-split = ap (sumRules bound) (drop-cons rules i (record { rank = 0; nodes = [] }) inside ∙ ap (λ (r : Rule). r ∷ drop (suc i) rules) (there .rule))
 
-      side-room : Room (sideBound rules nodes-there) (4 * length nodes-there) form space free
+      side-room : Room (sideBound rules nodes-there) (4 * length nodes-there) table space free
       side-room = record {
         fits = omega (arith, s .few-rules, s .long, bound-split, g .room);
         numbers = omega (arith, s .few-rules, bound-split, bound-linear alphabet rules (g .proper), g .few);
@@ -125,7 +125,7 @@ module _ {form₀ alphabet body : List ℕ} {count : ℕ} (g : Grammar form₀ a
         left = omega (arith, s .few-cells, later .nodes, long-nodes, g .few);
       }
 
-      pub side : RightSide form space free alphabet ranks roots nodes-there
+      pub side : RightSide table space free alphabet ranks roots nodes-there
       side = record {
         rules = rules;
         number = i;
@@ -143,16 +143,16 @@ module _ {form₀ alphabet body : List ℕ} {count : ℕ} (g : Grammar form₀ a
       }
 
       -- the next rule
-      module _ {form′ space′ : List ℕ} {r : Made} (d : SideMade form space free alphabet ranks roots nodes-there form′ space′ r) where
-        grown : Grown (sideBound rules nodes-there) (4 * length nodes-there) form space free form′ space′ (r .free)
+      module _ {table′ space′ : List ℕ} {r : Made} (d : SideMade table space free alphabet ranks roots nodes-there table′ space′ r) where
+        grown : Grown (sideBound rules nodes-there) (4 * length nodes-there) table space free table′ space′ (r .free)
         unfolding side
         grown = d .grown side
 
-        stood : Stood (record { rules = made (suc i) .rules; made = skeletonOf (made (suc i)) i }) form′ space′ r
+        stood : Stood (record { rules = made (suc i) .rules; made = skeletonOf (made (suc i)) i }) table′ space′ r
         unfolding scanned side
         stood =
             rw (new-skeleton alphabet rules i)
-            (subst (λ (ns : List ℕ). let m = scan (rankIn alphabet rules) (skeletonOf (made i)) ns (made i .rules) in Stood (record { rules = m .rules; made = nth (m .made) 0 }) form′ space′ r) (ap (λ (x : Rule). x .nodes) (sym (there .rule))) (d .stood side))
+            (subst (λ (ns : List ℕ). let m = scan (rankIn alphabet rules) (skeletonOf (made i)) ns (made i .rules) in Stood (record { rules = m .rules; made = nth (m .made) 0 }) table′ space′ r) (ap (λ (x : Rule). x .nodes) (sym (there .rule))) (d .stood side))
 
         known-next : Known space′ (r .free) (set ranks i (span .rank)) (set roots i (r .cell)) rules (suc i) (skeletonOf (made (suc i)))
         known-next =
@@ -182,7 +182,7 @@ module _ {form₀ alphabet body : List ℕ} {count : ℕ} (g : Grammar form₀ a
             up : (P : ℕ → Type 0) → ((n : ℕ) → n < i → P n) → P i → (n : ℕ) → n < suc i → P n
             up P old new n h = below-more P i old new n (omega arith)
 
-        pub rule-made : {i′ : ℕ} → i′ ≡ i + 1 → Making (span .end) i′ form′ space′ (r .free) (set ranks i (span .rank)) (set roots i (r .cell))
+        pub rule-made : {i′ : ℕ} → i′ ≡ i + 1 → Making (span .end) i′ table′ space′ (r .free) (set ranks i (span .rank)) (set roots i (r .cell))
         rule-made {i′} p =
             let z : i′ ≡ suc i = omega arith in
             rw z
@@ -202,12 +202,12 @@ module _ {form₀ alphabet body : List ℕ} {count : ℕ} (g : Grammar form₀ a
             }
 
   -- all rules
-  module _ {at i : ℕ} {form space : List ℕ} {free : Free} {ranks roots : List ℕ} (s : Making at i form space free ranks roots) (most : count ≤ i) where
+  module _ {at i : ℕ} {table space : List ℕ} {free : Free} {ranks roots : List ℕ} (s : Making at i table space free ranks roots) (most : count ≤ i) where
     all-there : i ≡ length rules
     all-there = omega (arith, g .count, s .passed .rules)
 
-    final : Making at (length rules) form space free ranks roots
-    final = subst (λ (n : ℕ). Making at n form space free ranks roots) all-there s
+    final : Making at (length rules) table space free ranks roots
+    final = subst (λ (n : ℕ). Making at n table space free ranks roots) all-there s
 
     last : length rules - 1 < length rules
     last = omega (arith, g .proper .some)
@@ -229,7 +229,7 @@ module _ {form₀ alphabet body : List ℕ} {count : ℕ} (g : Grammar form₀ a
         rw (z, closed-rule-is space (getD roots (length rules - 1) 0) p) (f .1)
 
     pub finished : {n : ℕ} {start : Number} → n ≡ count - 1 → start .0 ≡ closedAt space (getD roots n 0)
-        → RulesMade form₀ alphabet body form (record { count = free .rule; start = start })
+        → RulesMade table₀ alphabet body table (record { count = free .rule; start = start })
     finished {n} e is = record {
       held = final .held;
       counted = final .counted;

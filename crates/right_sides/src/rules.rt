@@ -16,9 +16,9 @@ pub struct Whole {
 }
 
 // The rules of the form that is made of the rules of a body.
-pub fn make_rules(form: &mut [u8], alphabet: &[u8], body: &[u8], rules: usize) -> Whole
-    requires { ⌜ Grammar (now form) (now alphabet) (now body) rules ⌝ }
-    ensures { λ r. ⌜ RulesMade (now (form .entry)) (now (alphabet .entry)) (now (body .entry)) (now (form .exit)) r ⌝ }
+pub fn make_rules(table: &mut [u8], alphabet: &[u8], body: &[u8], rules: usize) -> Whole
+    requires { ⌜ Grammar (now table) (now alphabet) (now body) rules ⌝ }
+    ensures { λ r. ⌜ RulesMade (now (table .entry)) (now (alphabet .entry)) (now (body .entry)) (now (table .exit)) r ⌝ }
 {
     let mut cells = [0u16; SPACE];
     write_parameters(&mut cells);
@@ -35,7 +35,7 @@ pub fn make_rules(form: &mut [u8], alphabet: &[u8], body: &[u8], rules: usize) -
         let start = span.start;
         let end = span.end;
         let made = right_side(
-            form,
+            table,
             &mut cells,
             free,
             alphabet,

@@ -6,7 +6,7 @@ use native.Mathlib.Omega.{arith}
 use lib.ListN.{length}
 use Rattle.terms.specs.Grammar.{Rule, nodeCount, derived, Proper}
 use Rattle.terms.specs.Form.{treeIn, formBound}
-use Rattle.terms.specs.FormBytes.{ruleCount, ruleOffset, formTree, formRefusal, formBytes}
+use Rattle.terms.specs.FormBytes.{ruleCount, formLength, formTree, formRefusal, formBytes}
 use Rattle.terms.specs.Calls.{rulesFor}
 use Rattle.terms.proofs.Sheet.Passed.{AlphabetPassed}
 use Rattle.terms.proofs.Form.Written.{length-form, counted, written-form}
@@ -22,7 +22,7 @@ pub record MadeBytes (alphabet : List ℕ) (grammar : List Rule) : Type 0 where
   pub tree : formTree alphabet (madeForm alphabet grammar) ≡ derived alphabet grammar
   pub few : ruleCount (madeForm alphabet grammar) ≤ formBound grammar
   pub linear : ruleCount (madeForm alphabet grammar) ≤ rulesFor grammar
-  pub long : length (madeForm alphabet grammar) ≡ ruleOffset (ruleCount (madeForm alphabet grammar))
+  pub long : length (madeForm alphabet grammar) ≡ formLength (ruleCount (madeForm alphabet grammar))
 
 -- the start is the rule that the start rule's skeleton is
 pub made-from : (alphabet : List ℕ) (grammar : List Rule) (start : ℕ) → skeletonOf (scanned alphabet grammar (length grammar)) (length grammar - 1) ≡ shut start

@@ -1,15 +1,16 @@
--- Positions of the own symbols of a form's rules.
+-- Positions of the own symbols of a table's rules.
 use mathlib.Core.Path.{_≡_}
 use mathlib.Core.Bool.{cond}
 use mathlib.Core.List.{List, [], _∷_}
 use Prim.Native.Nat.{ℕ, _-_, _<_}
-use lib.Dec.{ltb}
+use lib.Dec.{leb, ltb}
 use lib.ListN.{getD}
+use Rattle.terms.specs.Refusal.{_when_}
 use Rattle.terms.specs.Form.{Value, valueAt}
-use Rattle.terms.specs.FormBytes.{ruleCount, formRules}
+use Rattle.terms.specs.FormBytes.{tableCount, tableRules}
 use Rattle.terms.specs.Count.{ownNodes, capped}
 use Rattle.counting.specs.Private.Symbols.{ownSymbols}
-use Rattle.counting.specs.Private.Counts.{CountedForm}
+use Rattle.counting.specs.Private.Counts.{CountedTable}
 use Rattle.labelling.specs.declared.place.Found.{Found}
 use Rattle.labelling.specs.declared.place.Found.the-variants.{At, In}
 
@@ -26,21 +27,25 @@ pub record LiesIn (v : ℕ → Value) (n : ℕ) (symbols : List ℕ) (p a q : �
 
 -- the symbol at position p of rule i (01 Size, label)
 abbrev pub symbolAt : List ℕ → List ℕ → ℕ → ℕ → ℕ
-symbolAt alphabet form i p = getD (ownSymbols (valueAt (formRules alphabet form) i)) p 0
+symbolAt alphabet table i p = getD (ownSymbols (valueAt (tableRules alphabet table) i)) p 0
 
--- rule i of a form with its counts has a position p (01 Size, label)
-pub record Position (alphabet form counts : List ℕ) (i p : ℕ) : Type 0 where
-  pub known : CountedForm alphabet form counts
-  pub rule : i < ruleCount form
-  pub within : p < capped (ownNodes (valueAt (formRules alphabet form) i))
+-- the refusal of position p of rule i: 21 where the rule has no such position (01 Size, label)
+abbrev pub positionRefusal : List ℕ → List ℕ → ℕ → ℕ → ℕ
+positionRefusal alphabet table i p = 21 when (leb (capped (ownNodes (valueAt (tableRules alphabet table) i))) p)
+
+-- rule i of a table with its counts has a position p (01 Size, label)
+pub record Position (alphabet table counts : List ℕ) (i p : ℕ) : Type 0 where
+  pub known : CountedTable alphabet table counts
+  pub rule : i < tableCount table
+  pub within : p < capped (ownNodes (valueAt (tableRules alphabet table) i))
 
 -- position p of rule i is position q of rule a, which is lower (01 Size, label)
 abbrev pub Lies : List ℕ → List ℕ → ℕ → ℕ → ℕ → ℕ → Type 0
-Lies alphabet form i p a q =
-    let value = valueAt (formRules alphabet form) in
+Lies alphabet table i p a q =
+    let value = valueAt (tableRules alphabet table) in
     LiesIn value i (ownSymbols (value i)) p a q
 
 -- what is found of position p of rule i is right (01 Size, label)
 abbrev pub Leads : List ℕ → List ℕ → ℕ → ℕ → Found → Type 0
-Leads alphabet form i p (At f) = f .0 ≡ symbolAt alphabet form i p
-Leads alphabet form i p (In place) = Lies alphabet form i p (place .rule .0) (place .position)
+Leads alphabet table i p (At f) = f .0 ≡ symbolAt alphabet table i p
+Leads alphabet table i p (In place) = Lies alphabet table i p (place .rule .0) (place .position)

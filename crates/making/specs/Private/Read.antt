@@ -4,7 +4,7 @@ use mathlib.Core.List.{List}
 use Prim.Native.Nat.{ℕ, _≤_}
 use lib.ListN.{length}
 use Rattle.terms.specs.Grammar.{Rule}
-use Rattle.terms.specs.FormBytes.{ruleOffset}
+use Rattle.terms.specs.FormBytes.{formLength}
 use Rattle.terms.specs.Calls.{lentAfter}
 use Rattle.skeletons.specs.Form.{madeForm}
 use Rattle.sheets.specs.Sheet.{sheetReading}
@@ -15,7 +15,7 @@ use Rattle.making.specs.Making.{FormHolds}
 -- the sheet was read as the layout, and the slice has room for the rules that it asks for (01 One-hole form)
 pub record ReadWithRoom (sheet : List ℕ) (layout : Layout) (room : ℕ) : Type 0 where
   pub read : sheetReading sheet ≡ Sheet layout
-  pub fits : ruleOffset (layout .asked) ≤ room
+  pub fits : formLength (layout .asked) ≤ room
 
 -- the form that is made of a grammar is written, so many bytes, and the later ones are kept (01 One-hole form)
 pub record FormWritten (alphabet : List ℕ) (grammar : List Rule) (n : ℕ) (exit entry : List ℕ) : Type 0 where

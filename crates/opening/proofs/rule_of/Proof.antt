@@ -1,7 +1,10 @@
 -- `opening::rule_of` meets its contract: the tests are those of the definition, in its order, and where all are passed the rule stands whole in the bytes.
 use mathlib.Core.Path.{refl}
+use native.Mathlib.Omega.{arith}
 use borrow.Author.Needs.{needs}
 use borrow.Author.Tests.{le-leb, lt-leb, le-ltb, lt-ltb}
+use lib.ListN.{length-drop}
+use Rattle.terms.specs.FormBytes.{headLength}
 use Rattle.forms.specs.declared.rule.RuleReading.the-variants.{Refused}
 use Rattle.forms.specs.Reading.{orRule}
 use Rattle.terms.proofs.Refusal.{is-first}
@@ -32,14 +35,17 @@ returns-3 c =
     let inside = c .before in
     rw (inside .before .before .if1 .left, lt-leb _ _ (inside .if2 .left), lt-ltb _ _ (c .if3 .taken))
 
+table-of-requires : tie.Need-table-of-requires
+table-of-requires c κs = search needs
+
 rule-at-requires : tie.Need-rule-at-requires
-rule-at-requires c κs = search needs
+rule-at-requires c κs = rw (c .table-of .ensures) (omega (arith, length-drop headLength (c .before .before .before .before .before .before .args .form .now)))
 
 returns-4 : tie.Need-returns-4
 returns-4 c =
-    let whole = c .before in
+    let whole = c .before .before in
     let inside = whole .before in
-    rw (c .rule-at .ensures, inside .before .before .if1 .left, lt-leb _ _ (inside .if2 .left), le-ltb _ _ (whole .if3 .left))
+    rw (c .rule-at .ensures, c .before .table-of .ensures, inside .before .before .if1 .left, lt-leb _ _ (inside .if2 .left), le-ltb _ _ (whole .if3 .left))
 
 pub rule-of-spec : {M : Type 1} → statement M
-rule-of-spec = tie.close (tie.spec returns cast-place returns-2 mul-if3 add-if3 add-if3-2 returns-3 rule-at-requires returns-4)
+rule-of-spec = tie.close (tie.spec returns cast-place returns-2 add-if3 mul-if3 add-if3-2 returns-3 table-of-requires rule-at-requires returns-4)

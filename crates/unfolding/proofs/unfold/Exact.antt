@@ -5,24 +5,24 @@ use Prim.Native.Nat.{ℕ, _+_, _^_, _<_}
 use native.Mathlib.Omega.{arith}
 use lib.ListN.{length}
 use Rattle.terms.specs.Form.{Has}
-use Rattle.terms.specs.FormBytes.{ruleCount, formRules}
+use Rattle.terms.specs.FormBytes.{tableCount, tableRules}
 use Rattle.counting.specs.Private.Symbols.{symbolsBefore, symbolsAfter}
 use Rattle.counting.proofs.Symbols.{count-parts, nodes-before}
-use Rattle.counting.specs.Private.Counts.{ownIn, beforeIn, CountedForm}
+use Rattle.counting.specs.Private.Counts.{ownIn, beforeIn, CountedTable}
 use Rattle.unfolding.specs.Private.Writing.{valueIn}
-use Rattle.counting.proofs.Counted.{known-form, own-known, before-known}
+use Rattle.forms.proofs.Rules.{rules-counted, valid-rules}
+use Rattle.counting.proofs.Counted.{own-known, before-known}
 
-module _ {alphabet form counts : List ℕ} (known : CountedForm alphabet form counts) (i : ℕ) where
+module _ {alphabet table counts : List ℕ} (known : CountedTable alphabet table counts) (i : ℕ) where
   abbrev first : ℕ
-  first = length (symbolsBefore (valueIn alphabet form i))
+  first = length (symbolsBefore (valueIn alphabet table i))
 
   abbrev last : ℕ
-  last = length (symbolsAfter (valueIn alphabet form i))
+  last = length (symbolsAfter (valueIn alphabet table i))
 
-  pub own-exact : i < ruleCount form → first + last < 2 ^ 64 → ownIn counts i ≡ first + last
-  own-exact low h = omega (arith, own-known known i low, count-parts (valueIn alphabet form i))
+  pub own-exact : i < tableCount table → first + last < 2 ^ 64 → ownIn counts i ≡ first + last
+  own-exact low h = omega (arith, own-known known i low, count-parts (valueIn alphabet table i))
 
-  pub before-exact : (n : ℕ) → n < ruleCount form → Has (formRules alphabet form) n 1 i → first < 2 ^ 64 → beforeIn counts i ≡ first
+  pub before-exact : (n : ℕ) → n < tableCount table → Has (tableRules alphabet table) n 1 i → first < 2 ^ 64 → beforeIn counts i ≡ first
   before-exact n low has h =
-      let form = known-form known in
-      omega (arith, before-known known i (omega arith), nodes-before (form .valid) n (omega (arith, form .count)) i has)
+      omega (arith, before-known known i (omega arith), nodes-before (valid-rules alphabet table (known .valid)) n (omega (arith, rules-counted alphabet table (known .valid))) i has)

@@ -25,7 +25,7 @@ returns c =
     let call = told .before .before .before .before in
     let given = call .before .before .before .before .before .before .args in
     let says = mask-says (evaluationRefusal (given .alphabet .now) (given .automaton .now) (given .form .now) (length (given .relations .now))) (formMask (given .alphabet .now) (given .automaton .now) (given .form .now)) (given .mask .now) _ (sym (call .evaluate .ensures .0) ∙ told .n .given .1) in
-    (says .number, (call .evaluate .ensures .1, says .result))
+    (says .number, (call .evaluate .ensures .1 .0, says .result))
 
 same-length-2 : tie.Need-same-length-2
 same-length-2 c = search needs
@@ -36,7 +36,7 @@ returns-2 c =
     let call = told .before .before .before .before in
     let given = call .before .before .before .before .before .before .args in
     let says = mask-says (evaluationRefusal (given .alphabet .now) (given .automaton .now) (given .form .now) (length (given .relations .now))) (formMask (given .alphabet .now) (given .automaton .now) (given .form .now)) (given .mask .now) _ (sym (call .evaluate .ensures .0) ∙ told .states .given .1) in
-    (says .number, (call .evaluate .ensures .1, says .result))
+    (says .number, (call .evaluate .ensures .1 .0, says .result))
 
 pub ewf-evaluate-spec : {M : Type 1} → statement M
 ewf-evaluate-spec =

@@ -1,9 +1,15 @@
 -- `contraction::contract_chain::contract_chain` meets its contract: what the cell is decides, as in the model.
 use mathlib.Core.Path.{_≡_, sym, _∙_}
+use mathlib.Core.Logic.{_⊎_, inl, inr}
+use mathlib.Core.List.{List}
+use Prim.Native.Nat.{ℕ}
+use denote.Enum.Declared.{tagOf}
 use native.Mathlib.Omega.{arith}
 use borrow.Author.Needs.{needs}
-use Rattle.cells.specs.Cells.{cellAt}
+use Rattle.cells.specs.Cells.{field, cellAt}
 use Rattle.cells.specs.declared.cells.Cell.{Cell}
+use Rattle.cells.specs.declared.cells.Cell.the-variants.{Parameter, Closed, Over, Terminal}
+use Rattle.cells.proofs.cells.Cell.{the-type}
 use Rattle.cells.proofs.Reading.{is-parameter, is-closed, is-over, is-terminal}
 use Rattle.contraction.proofs.Chain.{contract-chain-shut, contract-chain-under, contract-chain-plain}
 use Rattle.contraction.proofs.contract_chain.contract_chain.Statement.{statement}
@@ -43,17 +49,8 @@ add-rule-requires-2 c κs = search needs
 add-over-requires : tie.Need-add-over-requires
 add-over-requires c κs = search needs
 
-enum-told : tie.Need-enum-told
-enum-told c = search needs
-
 add-over-requires-2 : tie.Need-add-over-requires-2
 add-over-requires-2 c κs = search needs
-
-enum-told-2 : tie.Need-enum-told-2
-enum-told-2 c = search needs
-
-add-over-requires-3 : tie.Need-add-over-requires-3
-add-over-requires-3 c κs = search needs
 
 same-length : tie.Need-same-length
 same-length c = search needs
@@ -81,21 +78,23 @@ returns-2 c =
     let (kind, number, child) = is-over (a .cells .now) (a .cell) (cell-is read (told .rule2 .given .1)) in
     contract-chain-under _ _ (omega (arith, begin read .pre .1)) _ _ kind number child (chain .chain2 .ensures) (added .add-rule2 .ensures) (c .add-over .ensures)
 
+-- a parameter or a terminal is no rule
+no-rule : (space : List ℕ) (k : ℕ) (x : Cell) → (tagOf the-type x ≡ 0) ⊎ (tagOf the-type x ≡ 3) → cellAt space k ≡ x
+    → (field space k 0 ≡ 1 → ⊥) × (field space k 0 ≡ 2 → ⊥)
+no-rule space k (Parameter n) t e = let (kind, number) = is-parameter space k e in (λ z. omega arith, λ z. omega arith)
+no-rule space k (Closed a) (inl t) e = absurd (omega arith)
+no-rule space k (Closed a) (inr t) e = absurd (omega arith)
+no-rule space k (Over a n) (inl t) e = absurd (omega arith)
+no-rule space k (Over a n) (inr t) e = absurd (omega arith)
+no-rule space k (Terminal f n) t e = let (kind, number, count) = is-terminal space k e in (λ z. omega arith, λ z. omega arith)
+
 returns-3 : tie.Need-returns-3
 returns-3 c =
-    let told = c .before .before in
-    let read = told .before .before in
+    let arm = c .before .before in
+    let read = arm .before in
     let a = begin read .args in
-    let (kind, number) = is-parameter (a .cells .now) (a .cell) (cell-is read (told .enum-told .given .1)) in
-    contract-chain-plain _ _ (omega (arith, begin read .pre .1)) (λ z. omega arith) (λ z. omega arith) (c .add-over2 .ensures)
-
-returns-4 : tie.Need-returns-4
-returns-4 c =
-    let told = c .before .before in
-    let read = told .before .before in
-    let a = begin read .args in
-    let (kind, number, count) = is-terminal (a .cells .now) (a .cell) (cell-is read (told .enum-told2 .given .1)) in
-    contract-chain-plain _ _ (omega (arith, begin read .pre .1)) (λ z. omega arith) (λ z. omega arith) (c .add-over3 .ensures)
+    let (not-closed, not-over) = no-rule (a .cells .now) (a .cell) (read .read-cell .result) (arm .match .keys3) (sym (read .read-cell .ensures)) in
+    contract-chain-plain _ _ (omega (arith, begin read .pre .1)) not-closed not-over (c .add-over2 .ensures)
 
 pub contract-chain-spec : {M : Type 1} → statement M
 contract-chain-spec =
@@ -110,13 +109,9 @@ contract-chain-spec =
     chain-requires-2
     add-rule-requires-2
     add-over-requires
-    enum-told
     add-over-requires-2
-    enum-told-2
-    add-over-requires-3
     same-length
     returns
     same-length-2
     returns-2
-    returns-3
-    returns-4)
+    returns-3)

@@ -1,12 +1,14 @@
 -- `evaluation::evaluate::evaluate` meets its contract: a refusal is answered by its number and leaves the slice as it was; else the answer and the slice are
 -- those of the evaluation that follows the checks.
-use mathlib.Core.Path.{_≡_, ap}
+use mathlib.Core.Path.{_≡_, sym, ap, _∙_}
 use Prim.Native.Nat.{ℕ, zero, suc}
 use native.Mathlib.Omega.{arith}
 use borrow.Author.Needs.{needs}
 use Rattle.terms.proofs.Lent.{lent-kept, lent-written}
 use Rattle.evaluation.specs.Evaluation.{evaluationAfter}
 use Rattle.evaluation.specs.declared.evaluate.Evaluation.the-variants.{Refused, Mask}
+use Rattle.evaluation.proofs.Passed.{evaluation-passed}
+use Rattle.evaluation.proofs.Entries.{right-by-runs}
 use Rattle.evaluation.proofs.evaluate.evaluate.Statement.{statement}
 use Rattle.evaluation.proofs.evaluate.evaluate.Tie as tie
 
@@ -24,7 +26,7 @@ evaluation-refusal-requires c κs = search needs
 returns : tie.Need-returns
 returns c =
     let e = c .before .evaluation-refusal .ensures in
-    (answer-refused _ e (c .if1 .taken), lent-kept _ _ e (c .if1 .taken))
+    (answer-refused _ e (c .if1 .taken), (lent-kept _ _ e (c .if1 .taken), tt))
 
 evaluate-checked-requires : tie.Need-evaluate-checked-requires
 evaluate-checked-requires c κs = search needs
@@ -37,7 +39,10 @@ returns-2 c =
     let call = c .before .before in
     let passes = call .before .before in
     let e = passes .before .evaluation-refusal .ensures in
-    (answer-mask e (passes .if1 .left) (call .evaluate-checked .ensures .0), lent-written _ _ e (passes .if1 .left) (call .evaluate-checked .ensures .1))
+    let (mask, written) = call .evaluate-checked .ensures in (
+      answer-mask e (passes .if1 .left) mask,
+      (lent-written _ _ e (passes .if1 .left) written, right-by-runs (evaluation-passed _ _ _ _ (sym e ∙ passes .if1 .left)) _ _ written _ mask),
+    )
 
 pub evaluate-spec : {M : Type 1} → statement M
 evaluate-spec =

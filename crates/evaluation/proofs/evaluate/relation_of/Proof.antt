@@ -4,8 +4,9 @@ use Prim.Native.Nat.{_≤_}
 use native.Mathlib.Omega.{arith}
 use denote.Ref.{now}
 use borrow.Author.Needs.{needs}
+use Rattle.forms.proofs.Rules.{rule-whole}
 use Rattle.evaluation.specs.Private.Evaluable.{entryIn}
-use Rattle.evaluation.proofs.Entry.{passed, whole-ready, pierced-ready, whole-entry, pierced-entry, filled-entry, composed-entry}
+use Rattle.evaluation.proofs.Entry.{whole-ready, pierced-ready, whole-entry, pierced-entry, filled-entry, composed-entry}
 use Rattle.evaluation.proofs.evaluate.relation_of.Statement.{statement}
 use Rattle.evaluation.proofs.evaluate.relation_of.Tie as tie
 
@@ -22,7 +23,7 @@ pierced c = omega (arith, c .if2 .left, c .before .before .if1 .taken)
 rule-at-requires : tie.Need-rule-at-requires
 rule-at-requires c κs =
     let s = begin c in
-    omega (arith, passed (s .pre .0) .long, s .pre .1)
+    rule-whole _ _ (s .pre .0 .valid) _ (s .pre .1)
 
 slot-states-requires : tie.Need-slot-states-requires
 slot-states-requires c κs = search needs

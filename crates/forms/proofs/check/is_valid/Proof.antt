@@ -1,11 +1,13 @@
 -- `forms::check::is_valid` meets its contract: the tests are those of the definition, in its order. What is shorter than a head is shorter than any form.
+use mathlib.Core.Path.{_≡_}
 use mathlib.Core.Bool.{and-false}
+use Prim.Native.Nat.{_*_}
 use native.Mathlib.Omega.{arith}
 use borrow.Author.Needs.{needs}
 use borrow.Author.Tests.{lt-ltb, le-ltb, eq-eqb, ne-eqb}
-use lib.ListN.{length}
-use Rattle.terms.specs.FormBytes.{ruleCount, ruleOffset, validFor}
-use Rattle.forms.proofs.Laws.{failed, passed}
+use lib.ListN.{length, length-drop}
+use Rattle.terms.specs.FormBytes.{headLength, ruleLength, formLength, ruleCount, validFor}
+use Rattle.rule_checks.proofs.Laws.{failed, passed}
 use Rattle.forms.proofs.check.is_valid.Statement.{statement}
 use Rattle.forms.proofs.check.is_valid.Tie as tie
 
@@ -13,7 +15,7 @@ returns : tie.Need-returns
 unfolding validFor
 returns c =
     let form = c .before .before .before .args .form .now in
-    rw (ne-eqb (length form) (ruleOffset (ruleCount form)) (λ e. omega arith), and-false)
+    rw (ne-eqb (length form) (formLength (ruleCount form)) (λ e. omega arith), and-false)
 
 rule-count-requires : tie.Need-rule-count-requires
 rule-count-requires c κs = search needs
@@ -41,17 +43,25 @@ returns-4 c =
     let some = few .before in
     rw (← some .before .rule-count .ensures .0, le-ltb _ _ (some .if2 .left), le-ltb _ _ (few .if3 .left), ne-eqb _ _ (c .if4 .taken))
 
+table-of-requires : tie.Need-table-of-requires
+table-of-requires c κs = search needs
+
+-- the table has room for all rules, and for no more
+table-holds : (c : tie.After-table-of) → length (c .table-of .result .now) ≡ ruleLength * c .before .before .before .before .rule-count .result
+table-holds c = rw (c .table-of .ensures) (omega (arith, length-drop headLength (c .before .before .before .before .before .before .before .before .args .form .now)))
+
 start-of-requires : tie.Need-start-of-requires
 start-of-requires c κs = search needs
 
 calls-lower-requires : tie.Need-calls-lower-requires
-calls-lower-requires c κs = search needs
+calls-lower-requires c κs = omega (arith, table-holds (c .before))
 
 returns-5 : tie.Need-returns-5
 unfolding validFor
 returns-5 c =
     let begun = c .before in
-    let long = begun .before .before in
+    let parted = begun .before .before in
+    let long = parted .before in
     let few = long .before in
     let some = few .before in
     rw (
@@ -60,17 +70,19 @@ returns-5 c =
       le-ltb _ _ (few .if3 .left),
       eq-eqb _ _ (long .if4 .left),
       ← begun .before .start-of .ensures,
+      ← parted .table-of .ensures,
       failed (begun .calls-lower .ensures) (c .if5 .taken),
     )
 
 rules-fit-requires : tie.Need-rules-fit-requires
-rules-fit-requires c κs = search needs
+rules-fit-requires c κs = (omega (arith, table-holds (c .before .before .before)), omega arith)
 
 returns-6 : tie.Need-returns-6
 unfolding validFor
 returns-6 c =
     let begun = c .before .before in
-    let long = begun .before .before in
+    let parted = begun .before .before in
+    let long = parted .before in
     let few = long .before in
     let some = few .before in
     rw (
@@ -80,6 +92,7 @@ returns-6 c =
       le-ltb _ _ (few .if3 .left),
       eq-eqb _ _ (long .if4 .left),
       ← begun .before .start-of .ensures,
+      ← parted .table-of .ensures,
       passed (begun .calls-lower .ensures) (c .before .if5 .left),
     )
 
@@ -94,6 +107,7 @@ is-valid-spec =
     mul-if4
     add-if4
     returns-4
+    table-of-requires
     start-of-requires
     calls-lower-requires
     returns-5

@@ -6,11 +6,14 @@ use Rattle.labelling.proofs.Places.{rule-long, root-is}
 use Rattle.labelling.proofs.place.follow.Statement.{statement}
 use Rattle.labelling.proofs.place.follow.Tie as tie
 
-cast-i : tie.Need-cast-i
-cast-i c = search needs
+abbrev begin : tie.After-kind-of → tie.Start
+begin c = c .before .before .before .before
+
+abbrev told : tie.Then2 → tie.After-kind-of
+told c = c .before .before .before
 
 kind-of-requires : tie.Need-kind-of-requires
-kind-of-requires c κs = rule-long (c .before .before .before .before .pre)
+kind-of-requires c κs = rule-long (c .before .before .before .pre)
 
 in-chain-requires : tie.Need-in-chain-requires
 in-chain-requires c κs = search needs
@@ -19,10 +22,12 @@ returns : tie.Need-returns
 returns c = search needs
 
 terminal-of-requires : tie.Need-terminal-of-requires
-terminal-of-requires c κs = rule-long (c .before .before .before .before .before .before .before .before .pre)
+terminal-of-requires c κs = rule-long (begin (told c) .pre)
 
 returns-2 : tie.Need-returns-2
-returns-2 c = c .terminal-of .ensures ∙ root-is (c .before .before .before .before .before .before .before .before .before .pre) (omega (arith, c .before .before .before .before .kind-of .ensures)) (c .before .if2 .taken)
+returns-2 c =
+    let kind = told (c .before) in
+    c .terminal-of .ensures ∙ root-is (begin kind .pre) (omega (arith, kind .kind-of .ensures)) (c .before .if2 .taken)
 
 in-terminal-requires : tie.Need-in-terminal-requires
 in-terminal-requires c κs = search needs
@@ -34,7 +39,6 @@ pub follow-spec : {M : Type 1} → statement M
 follow-spec =
     tie.close
     (tie.spec
-    cast-i
     kind-of-requires
     in-chain-requires
     returns

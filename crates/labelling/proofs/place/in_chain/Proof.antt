@@ -4,32 +4,29 @@ use native.Mathlib.Omega.{arith}
 use borrow.Author.Needs.{needs}
 use Rattle.terms.specs.FormBytes.{slotOf}
 use Rattle.counting.specs.Private.Counts.{ownIn, beforeIn}
-use Rattle.labelling.proofs.Places.{rule-long, outer-low, inner-low, lies-in-front, lies-in-inner, lies-behind}
+use Rattle.labelling.proofs.Places.{rule-long, outer-counts, inner-counts, lies-in-front, lies-in-inner, lies-behind}
 use Rattle.labelling.proofs.place.in_chain.Statement.{statement}
 use Rattle.labelling.proofs.place.in_chain.Tie as tie
 
-abbrev begin : tie.After-struct-known → tie.Start
-begin c = c .before .before .before .before
+abbrev begin : tie.After-shared-slice-known3 → tie.Start
+begin c = c .before .before .before
 
-abbrev placed : tie.After-slot-of2 → tie.After-struct-known
+abbrev placed : tie.After-slot-of2 → tie.After-shared-slice-known3
 placed c = c .before .before
 
 -- the counts that are read are those of B and C
 
 before-is : (c : tie.After-own-of) → let a = begin (placed (c .before .before)) .args in
-    c .before .before-of .result ≡ beforeIn (a .counts .now) (slotOf (a .form .now) (a .place .rule .0) 0)
+    c .before .before-of .result ≡ beforeIn (a .counts .now) (slotOf (a .table .now) (a .place .rule .0) 0)
 before-is c =
     let numbers = begin (placed (c .before .before)) .args .counts .now in
     c .before .before-of .ensures ∙ ap (beforeIn numbers) (c .before .before .before .slot-of .ensures)
 
 own-is : (c : tie.After-own-of) → let a = begin (placed (c .before .before)) .args in
-    c .own-of .result ≡ ownIn (a .counts .now) (slotOf (a .form .now) (a .place .rule .0) 1)
+    c .own-of .result ≡ ownIn (a .counts .now) (slotOf (a .table .now) (a .place .rule .0) 1)
 own-is c =
     let numbers = begin (placed (c .before .before)) .args .counts .now in
     c .own-of .ensures ∙ ap (ownIn numbers) (c .before .before .slot-of2 .ensures)
-
-cast-i : tie.Need-cast-i
-cast-i c = search needs
 
 slot-of-requires : tie.Need-slot-of-requires
 slot-of-requires c κs = (rule-long (begin c .pre .0), omega arith)
@@ -38,10 +35,10 @@ slot-of-requires-2 : tie.Need-slot-of-requires-2
 slot-of-requires-2 c κs = (rule-long (begin (c .before) .pre .0), omega arith)
 
 before-of-requires : tie.Need-before-of-requires
-before-of-requires c κs = let p = begin (placed c) .pre in rw (c .before .slot-of .ensures) (outer-low (p .0) (p .1))
+before-of-requires c κs = let p = begin (placed c) .pre in rw (c .before .slot-of .ensures) (outer-counts (p .0) (p .1))
 
 own-of-requires : tie.Need-own-of-requires
-own-of-requires c κs = let p = begin (placed (c .before)) .pre in rw (c .before .slot-of2 .ensures) (inner-low (p .0) (p .1))
+own-of-requires c κs = let p = begin (placed (c .before)) .pre in rw (c .before .slot-of2 .ensures) (inner-counts (p .0) (p .1))
 
 returns : tie.Need-returns
 returns c =
@@ -55,8 +52,8 @@ returns-2 c =
     rw (sum .before .before .slot-of2 .ensures, before-is sum)
     (lies-in-inner (p .0) (p .1) (rw (before-is sum) at (c .before .if1 .left)) (rw (before-is sum, own-is sum) at (c .if2 .taken)))
 
-sub-t12 : tie.Need-sub-t12
-sub-t12 c = search needs
+sub-behind : tie.Need-sub-behind
+sub-behind c = search needs
 
 returns-3 : tie.Need-returns-3
 returns-3 c =
@@ -69,12 +66,11 @@ pub in-chain-spec : {M : Type 1} → statement M
 in-chain-spec =
     tie.close
     (tie.spec
-    cast-i
     slot-of-requires
     slot-of-requires-2
     before-of-requires
     own-of-requires
     returns
     returns-2
-    sub-t12
+    sub-behind
     returns-3)

@@ -11,12 +11,12 @@ use Rattle.labelling.proofs.place.in_slots.Statement.{statement}
 use Rattle.labelling.proofs.place.in_slots.Tie as tie
 
 abbrev Inv-loop : tie.InvT-loop
-Inv-loop form counts i from to position left₀ j₀ left j =
-    let slot = slotOf form i in
+Inv-loop table counts rule from to position left₀ j₀ left j =
+    let slot = slotOf table (rule .0) in
     (from ≤ j) × (j ≤ to) × (placeIn (ownIn counts) (slotsFrom slot from to) position ≡ placeIn (ownIn counts) (slotsFrom slot j to) left)
 
 abbrev μ-loop : tie.MeasureT-loop
-μ-loop form counts i from to position left₀ j₀ left j = to - j
+μ-loop table counts rule from to position left₀ j₀ left j = to - j
 
 -- position p of the slots from j on, by the nodes of slot j
 module _ (own slot : ℕ → ℕ) (j to p : ℕ) where
@@ -30,7 +30,7 @@ module _ (own slot : ℕ → ℕ) (j to p : ℕ) where
   falls-nowhere h = rw (slots-none slot j to h)
 
 nodes-are : (c : tie.After-own-of Inv-loop μ-loop) → let s = c .before .before .before .before .before .before in
-    c .own-of .result ≡ ownIn (s .args .counts .now) (slotOf (s .args .form .now) (s .args .i) (c .before .before .before .loop .j))
+    c .own-of .result ≡ ownIn (s .args .counts .now) (slotOf (s .args .table .now) (s .args .rule .0) (c .before .before .before .loop .j))
 nodes-are c = c .own-of .ensures ∙ ap (ownIn (c .before .before .before .before .before .before .args .counts .now)) (c .before .slot-of .ensures)
 
 loop-holds : tie.Need-loop-holds Inv-loop μ-loop
@@ -48,7 +48,7 @@ returns c =
     let head = c .before .before .before .before in
     let a = head .before .before .before .args in
     let own = ownIn (a .counts .now) in
-    let slot = slotOf (a .form .now) (a .i) in
+    let slot = slotOf (a .table .now) (a .rule .0) in
     let nodes = nodes-are (c .before) in
     rw (c .before .before .slot-of .ensures) (sym (head .loop .inv .2 ∙ falls-here own slot (head .loop .j) (a .to) (head .loop .left) (omega arith) (omega arith)))
 
@@ -63,7 +63,7 @@ loop-again c =
     let head = c .before .before .before .before in
     let a = head .before .before .before .args in
     let own = ownIn (a .counts .now) in
-    let slot = slotOf (a .form .now) (a .i) in
+    let slot = slotOf (a .table .now) (a .rule .0) in
     let nodes = nodes-are (c .before) in (
       omega arith,
       omega arith,
@@ -76,7 +76,7 @@ returns-2 : tie.Need-returns-2 Inv-loop μ-loop
 returns-2 c =
     let head = c .before in
     let a = head .before .before .before .args in
-    sym (head .loop .inv .2 ∙ falls-nowhere (ownIn (a .counts .now)) (slotOf (a .form .now) (a .i)) (head .loop .j) (a .to) (head .loop .left) (omega arith))
+    sym (head .loop .inv .2 ∙ falls-nowhere (ownIn (a .counts .now)) (slotOf (a .table .now) (a .rule .0)) (head .loop .j) (a .to) (head .loop .left) (omega arith))
 
 pub in-slots-spec : {M : Type 1} → statement M
 in-slots-spec =

@@ -5,22 +5,19 @@ use borrow.Author.Needs.{needs}
 use Rattle.terms.specs.FormBytes.{ruleByte}
 use Rattle.forms.proofs.Rules.{hole-within}
 use Rattle.counting.proofs.Readable.{whole-readable, left-readable, right-readable}
-use Rattle.labelling.proofs.Places.{rule-long, room, before-low, lies-in-whole, lies-in-left, lies-in-right}
+use Rattle.labelling.proofs.Places.{rule-long, room, has-counts, lies-in-whole, lies-in-left, lies-in-right}
 use Rattle.labelling.proofs.place.in_terminal.Statement.{statement}
 use Rattle.labelling.proofs.place.in_terminal.Tie as tie
 
-abbrev begin : tie.After-struct-known → tie.Start
+abbrev begin : tie.After-rule → tie.Start
 begin c = c .before .before .before .before
 
-abbrev placed : tie.After-hole-of → tie.After-struct-known
+abbrev placed : tie.After-hole-of → tie.After-rule
 placed c = c .before .before .before .before
 
 -- not of kind 0, so of kind 1
-kind-is : (c : tie.Else1) → let a = begin (c .before .before .before) .args in ruleByte (a .form .now) (a .place .rule .0) 0 ≡ 1
+kind-is : (c : tie.Else1) → let a = begin (c .before .before .before) .args in ruleByte (a .table .now) (a .place .rule .0) 0 ≡ 1
 kind-is c = omega (arith, c .before .kind-of .ensures, begin (c .before .before .before) .pre .1, c .if1 .left)
-
-cast-i : tie.Need-cast-i
-cast-i c = search needs
 
 rank-at-requires : tie.Need-rank-at-requires
 rank-at-requires c κs = rule-long (begin c .pre .0)
@@ -35,7 +32,7 @@ in-slots-requires : tie.Need-in-slots-requires
 in-slots-requires c κs =
     let at = begin (c .before .before .before .before) .pre .0 in
     let kind = sym (c .before .before .kind-of .ensures) ∙ c .before .if1 .taken in
-    rw (c .before .before .before .rank-at .ensures) (whole-readable _ _ (at .known .ranked) (at .known .valid) _ (at .rule) _ (room at) kind)
+    rw (c .before .before .before .rank-at .ensures) (whole-readable _ _ (at .known .valid) _ (at .rule) _ (room at) kind)
 
 returns : tie.Need-returns
 returns c =
@@ -51,13 +48,13 @@ cast-hole : tie.Need-cast-hole
 cast-hole c = search needs
 
 before-of-requires : tie.Need-before-of-requires
-before-of-requires c κs = before-low (begin (placed c) .pre .0)
+before-of-requires c κs = has-counts (begin (placed c) .pre .0)
 
 sub-in-slots-2 : tie.Need-sub-in-slots-2
 sub-in-slots-2 c =
     let h = c .before .before .before in
     let at = begin (placed h) .pre .0 in
-    omega (arith, hole-within _ _ (at .known .ranked) (at .known .valid) _ (at .rule) (kind-is (h .before)) .0, h .hole-of .ensures)
+    omega (arith, hole-within _ _ (at .known .valid) _ (at .rule) (kind-is (h .before)) .0, h .hole-of .ensures)
 
 sub-in-slots-3 : tie.Need-sub-in-slots-3
 sub-in-slots-3 c = search needs
@@ -66,7 +63,7 @@ in-slots-requires-2 : tie.Need-in-slots-requires-2
 in-slots-requires-2 c κs =
     let h = c .before .before .before .before in
     let at = begin (placed h) .pre .0 in
-    rw (h .hole-of .ensures) (left-readable _ _ (at .known .ranked) (at .known .valid) _ (at .rule) _ (room at) (kind-is (h .before)))
+    rw (h .hole-of .ensures) (left-readable _ _ (at .known .valid) _ (at .rule) _ (room at) (kind-is (h .before)))
 
 returns-2 : tie.Need-returns-2
 returns-2 c =
@@ -80,7 +77,7 @@ in-slots-requires-3 : tie.Need-in-slots-requires-3
 in-slots-requires-3 c κs =
     let h = c .before .before .before .before in
     let at = begin (placed h) .pre .0 in
-    rw (h .hole-of .ensures, h .before .before .before .rank-at .ensures) (right-readable _ _ (at .known .ranked) (at .known .valid) _ (at .rule) _ (room at) (kind-is (h .before)))
+    rw (h .hole-of .ensures, h .before .before .before .rank-at .ensures) (right-readable _ _ (at .known .valid) _ (at .rule) _ (room at) (kind-is (h .before)))
 
 returns-3 : tie.Need-returns-3
 returns-3 c =
@@ -94,7 +91,6 @@ pub in-terminal-spec : {M : Type 1} → statement M
 in-terminal-spec =
     tie.close
     (tie.spec
-    cast-i
     rank-at-requires
     kind-of-requires
     sub-in-slots

@@ -1,11 +1,12 @@
 -- `mark_line::line::size_of` meets its contract.
 use mathlib.Core.Path.{sym, ap}
-use Prim.Native.Nat.{ℕ}
+use Prim.Native.Nat.{ℕ, _*_}
 use native.Mathlib.Omega.{arith}
 use lib.ListN.{length-replicate}
 use lib.Seq.{length-take-le}
 use borrow.Author.Needs.{needs}
-use Rattle.terms.specs.FormBytes.{ruleOffset}
+use Rattle.terms.specs.FormBytes.{formLength, mostFormRules}
+use Rattle.terms.specs.Calls.{countsPerRule}
 use Rattle.mark_line.proofs.Sized.{parts, size-is}
 use Rattle.mark_line.proofs.line.size_of.Statement.{statement}
 use Rattle.mark_line.proofs.line.size_of.Tie as tie
@@ -58,7 +59,7 @@ returns c =
     let counted = call .before .before .before .before in
     let read = counted .before in
     let start = read .before .before .before in
-    size-is (start .args .sheet .now) (start .args .form .now) (parts _ _ (start .pre)) _ _ _ _ (read .word .ensures .0) (ap ruleOffset (counted .rule-count .ensures .0)) (length-replicate {A = ℕ} 4096 0) (call .size .ensures .0) (c .enum-told .given .1)
+    size-is (start .args .sheet .now) (start .args .form .now) (parts _ _ (start .pre)) _ _ _ _ (read .word .ensures .0) (ap formLength (counted .rule-count .ensures .0)) (length-replicate {A = ℕ} (countsPerRule * mostFormRules) 0) (call .size .ensures .0) (c .enum-told .given .1)
 
 returns-2 : tie.Need-returns-2
 returns-2 c =
@@ -66,7 +67,7 @@ returns-2 c =
     let counted = call .before .before .before .before in
     let read = counted .before in
     let start = read .before .before .before in
-    size-is (start .args .sheet .now) (start .args .form .now) (parts _ _ (start .pre)) _ _ _ _ (read .word .ensures .0) (ap ruleOffset (counted .rule-count .ensures .0)) (length-replicate {A = ℕ} 4096 0) (call .size .ensures .0) (c .before .nodes .given .1)
+    size-is (start .args .sheet .now) (start .args .form .now) (parts _ _ (start .pre)) _ _ _ _ (read .word .ensures .0) (ap formLength (counted .rule-count .ensures .0)) (length-replicate {A = ℕ} (countsPerRule * mostFormRules) 0) (call .size .ensures .0) (c .before .nodes .given .1)
 
 returns-3 : tie.Need-returns-3
 returns-3 c =
@@ -74,7 +75,7 @@ returns-3 c =
     let counted = call .before .before .before .before in
     let read = counted .before in
     let start = read .before .before .before in
-    size-is (start .args .sheet .now) (start .args .form .now) (parts _ _ (start .pre)) _ _ _ _ (read .word .ensures .0) (ap ruleOffset (counted .rule-count .ensures .0)) (length-replicate {A = ℕ} 4096 0) (call .size .ensures .0) (c .enum-told2 .given .1)
+    size-is (start .args .sheet .now) (start .args .form .now) (parts _ _ (start .pre)) _ _ _ _ (read .word .ensures .0) (ap formLength (counted .rule-count .ensures .0)) (length-replicate {A = ℕ} (countsPerRule * mostFormRules) 0) (call .size .ensures .0) (c .enum-told2 .given .1)
 
 pub size-of-spec : {M : Type 1} → statement M
 size-of-spec =

@@ -1,4 +1,4 @@
--- `right_sides::rules::make_rules` meets its contract. The invariant: the form holds what the model makes of the rules before the present one, and their cells
+-- `right_sides::rules::make_rules` meets its contract. The invariant: the table holds what the model makes of the rules before the present one, and their cells
 -- represent the model's skeletons. The measure is the number of rules left.
 use mathlib.Core.Path.{refl}
 use Prim.Native.Nat.{_-_, _≤_, _<_}
@@ -12,11 +12,11 @@ use Rattle.right_sides.proofs.rules.make_rules.Statement.{statement}
 use Rattle.right_sides.proofs.rules.make_rules.Tie as tie
 
 abbrev Inv-loop : tie.InvT-loop
-Inv-loop form₀ alphabet body rules cells₀ free₀ ranks₀ roots₀ at₀ rule₀ form cells free ranks roots at rule =
-    (g : Grammar form₀ alphabet body rules) → Making g at (rule .0) form cells free ranks roots
+Inv-loop table₀ alphabet body rules cells₀ free₀ ranks₀ roots₀ at₀ rule₀ table cells free ranks roots at rule =
+    (g : Grammar table₀ alphabet body rules) → Making g at (rule .0) table cells free ranks roots
 
 abbrev μ-loop : tie.MeasureT-loop
-μ-loop form₀ alphabet body rules cells₀ free₀ ranks₀ roots₀ at₀ rule₀ form cells free ranks roots at rule = rules - rule .0
+μ-loop table₀ alphabet body rules cells₀ free₀ ranks₀ roots₀ at₀ rule₀ table cells free ranks roots at rule = rules - rule .0
 
 write-parameters-requires : tie.Need-write-parameters-requires Inv-loop μ-loop
 write-parameters-requires c κs = refl

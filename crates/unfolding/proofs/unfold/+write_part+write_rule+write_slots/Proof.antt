@@ -27,7 +27,6 @@ pub +write-part+write-rule+write-slots-spec : {M : Type 1} → statement M
     (part-at t)
     write-part.Post
     (part.part-own-of-requires t)
-    (part.part-cast-terminal-of t)
     (part.part-terminal-of-requires t)
     (part.part-slice-write-tree t)
     (part.part-same-length t)
@@ -42,7 +41,6 @@ pub +write-part+write-rule+write-slots-spec : {M : Type 1} → statement M
     write-rule.Post
     chain.Inv-loop
     chain.μ-loop
-    (chain.rule-cast-i t)
     (chain.rule-loop-holds t)
     (chain.rule-kind-of-requires t)
     (chain.rule-slot-of-requires t)
@@ -52,7 +50,6 @@ pub +write-part+write-rule+write-slots-spec : {M : Type 1} → statement M
     (chain.rule-write-part-requires t)
     (chain.rule-before-of-requires t)
     (chain.rule-add-place t)
-    (chain.rule-cast-i-2 t)
     (chain.rule-loop-less t)
     (chain.rule-loop-again t)
     (node.rule-terminal-of-requires t)

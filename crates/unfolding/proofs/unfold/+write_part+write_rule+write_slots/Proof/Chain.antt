@@ -3,11 +3,10 @@
 use mathlib.Core.Path.{_≡_, refl, sym, _∙_}
 use Prim.Native.Nat.{ℕ, _+_, _≤_}
 use native.Mathlib.Omega.{arith}
-use borrow.Author.Needs.{needs}
 use lib.ListN.{length}
 use Rattle.counting.specs.Private.Symbols.{symbolsBefore, symbolsAfter}
 use Rattle.unfolding.specs.Private.Writing.{valueIn, ruleWritten, RuleRoom}
-use Rattle.counting.proofs.Counted.{rule-there, counts-long}
+use Rattle.counting.proofs.Counted.{rule-there, counts-there}
 use Rattle.unfolding.proofs.unfold.Exact.{own-exact, before-exact}
 use Rattle.unfolding.proofs.unfold.ByKind.{Chain, chain, chain-written}
 use Rattle.unfolding.proofs.unfold.write_rule.Reads as write-rule
@@ -15,24 +14,21 @@ use Rattle.unfolding.proofs.unfold.+write_part+write_rule+write_slots.L
 use Rattle.unfolding.proofs.unfold.+write_part+write_rule+write_slots.Proof.Measure.{rule-at, rule-claims}
 
 abbrev pub Inv-loop : rule-lts.InvT-loop
-Inv-loop alphabet form counts tree₀ at gap rule place₀ tree i place =
+Inv-loop alphabet table counts tree₀ at gap rule place₀ tree lower place =
     (length tree ≡ length tree₀)
-    × (i ≤ rule)
-    × RuleRoom alphabet form i place gap (length tree)
-    × (ruleWritten alphabet form i tree place gap ≡ ruleWritten alphabet form rule tree₀ at gap)
+    × (lower .0 ≤ rule .0)
+    × RuleRoom alphabet table (lower .0) place gap (length tree)
+    × (ruleWritten alphabet table (lower .0) tree place gap ≡ ruleWritten alphabet table (rule .0) tree₀ at gap)
 
 abbrev pub μ-loop : rule-lts.MeasureT-loop
-μ-loop alphabet form counts tree₀ at gap rule place₀ tree i place = i
+μ-loop alphabet table counts tree₀ at gap rule place₀ tree lower place = lower .0
 
 module _ (t : ℕ) where
-  pub rule-cast-i : rule-lts.Need-cast-i (rule-claims t) (rule-at t) write-rule.Post Inv-loop μ-loop
-  rule-cast-i c = search needs
-
   pub rule-loop-holds : rule-lts.Need-loop-holds (rule-claims t) (rule-at t) write-rule.Post Inv-loop μ-loop
-  rule-loop-holds c = (refl, omega arith, c .before .before .before .before .before .pre .1 .1, refl)
+  rule-loop-holds c = (refl, omega arith, c .before .before .before .before .pre .1 .1, refl)
 
   abbrev pub start : rule-lts.At-loop (rule-claims t) (rule-at t) write-rule.Post Inv-loop μ-loop → rule-lts.Start (rule-claims t) (rule-at t) write-rule.Post Inv-loop μ-loop
-  start c = c .before .before .before .before .before .before
+  start c = c .before .before .before .before .before
 
   pub rule-kind-of-requires : rule-lts.Need-kind-of-requires (rule-claims t) (rule-at t) write-rule.Post Inv-loop μ-loop
   rule-kind-of-requires c κs = rule-there (start c .pre .1 .0) _ (c .loop .inv .2 .below)
@@ -47,7 +43,7 @@ module _ (t : ℕ) where
   chain-known : (c : rule-lts.After-slot-of2 (rule-claims t) (rule-at t) write-rule.Post Inv-loop μ-loop)
       → let turn = c .before .before .before .before in
       let args = start turn .args in
-      Chain (args .alphabet .now) (args .form .now) (turn .loop .i) (c .before .slot-of .result .0) (c .slot-of2 .result .0)
+      Chain (args .alphabet .now) (args .table .now) (turn .loop .lower .0) (c .before .slot-of .result .0) (c .slot-of2 .result .0)
   chain-known c =
       let branch = c .before .before in
       let turn = branch .before .before in
@@ -57,12 +53,12 @@ module _ (t : ℕ) where
   pub rule-own-of-requires : rule-lts.Need-own-of-requires (rule-claims t) (rule-at t) write-rule.Post Inv-loop μ-loop
   rule-own-of-requires c κs =
       let turn = c .before .before .before .before in
-      omega (arith, chain-known c .inner .below, turn .loop .inv .2 .below, counts-long (start turn .pre .1 .0))
+      counts-there (start turn .pre .1 .0) _ (omega (arith, chain-known c .inner .below, turn .loop .inv .2 .below))
 
   -- the count of C's own symbols
   inner-own : (c : rule-lts.After-own-of (rule-claims t) (rule-at t) write-rule.Post Inv-loop μ-loop)
       → let args = start (c .before .before .before .before .before) .args in
-      let value = valueIn (args .alphabet .now) (args .form .now) (c .before .slot-of2 .result .0) in
+      let value = valueIn (args .alphabet .now) (args .table .now) (c .before .slot-of2 .result .0) in
       c .own-of .result ≡ length (symbolsBefore value) + length (symbolsAfter value)
   inner-own c =
       let turn = c .before .before .before .before .before in
@@ -95,13 +91,13 @@ module _ (t : ℕ) where
   rule-before-of-requires c κs =
       let named = c .before .before .before .before .before in
       let turn = named .before .before .before .before in
-      omega (arith, chain-known named .root .below, turn .loop .inv .2 .below, counts-long (start turn .pre .1 .0))
+      counts-there (start turn .pre .1 .0) _ (omega (arith, chain-known named .root .below, turn .loop .inv .2 .below))
 
   -- the count of the symbols before B's open place
   root-before : (c : rule-lts.After-before-of (rule-claims t) (rule-at t) write-rule.Post Inv-loop μ-loop)
       → let named = c .before .before .before .before .before .before in
       let args = start (named .before .before .before .before) .args in
-      c .before-of .result ≡ length (symbolsBefore (valueIn (args .alphabet .now) (args .form .now) (named .before .slot-of .result .0)))
+      c .before-of .result ≡ length (symbolsBefore (valueIn (args .alphabet .now) (args .table .now) (named .before .slot-of .result .0)))
   root-before c =
       let named = c .before .before .before .before .before .before in
       let turn = named .before .before .before .before in
@@ -118,15 +114,12 @@ module _ (t : ℕ) where
       let (same, low, room, left) = turn .loop .inv in
       omega (arith, root-before c, chain-known named .long, room .fits)
 
-  pub rule-cast-i-2 : rule-lts.Need-cast-i-2 (rule-claims t) (rule-at t) write-rule.Post Inv-loop μ-loop
-  rule-cast-i-2 c = search needs
-
   pub rule-loop-less : rule-lts.Need-loop-less (rule-claims t) (rule-at t) write-rule.Post Inv-loop μ-loop
-  rule-loop-less c = chain-known (c .before .before .before .before .before .before .before) .inner .below
+  rule-loop-less c = chain-known (c .before .before .before .before .before .before) .inner .below
 
   pub rule-loop-again : rule-lts.Need-loop-again (rule-claims t) (rule-at t) write-rule.Post Inv-loop μ-loop
   rule-loop-again c =
-      let wrote = c .before .before .before .before in
+      let wrote = c .before .before .before in
       let counted = wrote .before .before in
       let named = counted .before in
       let turn = named .before .before .before .before in
@@ -134,7 +127,7 @@ module _ (t : ℕ) where
       let args = start turn .args in
       let both = chain-known named in
       let kept = wrote .write-part .kept .1 .1 .1 .1 .0 in
-      let first = root-before (c .before) in
+      let first = root-before c in
       let own = inner-own counted in (
         kept ∙ same,
         omega (arith, both .inner .below),

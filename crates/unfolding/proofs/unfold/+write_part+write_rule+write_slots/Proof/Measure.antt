@@ -12,10 +12,10 @@ use Rattle.unfolding.proofs.unfold.+write_part+write_rule+write_slots.L
 use Rattle.unfolding.proofs.unfold.write_slots.Reads as write-slots
 use Rattle.unfolding.proofs.unfold.write_slots.Kinds as write-slots-kinds
 use Rattle.unfolding.proofs.unfold.+write_part+write_rule+write_slots.Lts-write_slots as slots-lts
-use Rattle.form_bytes.proofs.layout.hole_of.Reads as hole-of
-use Rattle.form_bytes.proofs.layout.kind_of.Reads as kind-of
-use Rattle.form_bytes.proofs.layout.slot_of.Reads as slot-of
-use Rattle.form_bytes.proofs.layout.terminal_of.Reads as terminal-of
+use Rattle.form_bytes.proofs.rule.hole_of.Reads as hole-of
+use Rattle.form_bytes.proofs.rule.kind_of.Reads as kind-of
+use Rattle.form_bytes.proofs.rule.slot_of.Reads as slot-of
+use Rattle.form_bytes.proofs.rule.terminal_of.Reads as terminal-of
 use Rattle.counting.proofs.counts.before_of.Reads as before-of
 use Rattle.counting.proofs.counts.own_of.Reads as own-of
 use Rattle.checks.proofs.alphabet.rank_of.Reads as rank-of
@@ -27,7 +27,7 @@ abbrev pub μ-rule : Measures 4 write-rule-kinds.ps ℕ
 μ-rule κs a = 3 * a .1 .1 .1 .0 .0 + 1
 
 abbrev pub μ-slots : Measures 4 write-slots-kinds.ps ℕ
-μ-slots κs a = 3 * a .1 .1 .1 .0
+μ-slots κs a = 3 * a .1 .1 .1 .0 .0
 
 module _ (t : ℕ) where
   abbrev pub part-at : In 4 write-part-kinds.ps

@@ -41,7 +41,7 @@ module _ (t : ℕ) where
       → let node = c .before .before in
       let turn = node .before .before .before .before in
       let args = start t turn .args in
-      Whole (args .alphabet .now) (args .form .now) (turn .loop .i) (node .before .terminal-of .result .0) (node .rank-of .result)
+      Whole (args .alphabet .now) (args .table .now) (turn .loop .lower .0) (node .before .terminal-of .result .0) (node .rank-of .result)
   whole-known c =
       let node = c .before .before in
       let turn = node .before .before .before .before in
@@ -96,7 +96,7 @@ module _ (t : ℕ) where
       → let node = c .before .before .before in
       let turn = node .before .before .before .before in
       let args = start t turn .args in
-      Pierced (args .alphabet .now) (args .form .now) (turn .loop .i) (node .before .terminal-of .result .0) (node .rank-of .result) (c .hole-of .result)
+      Pierced (args .alphabet .now) (args .table .now) (turn .loop .lower .0) (node .before .terminal-of .result .0) (node .rank-of .result) (c .hole-of .result)
   pierced-known c =
       let kind = c .before .before in
       let node = kind .before in

@@ -6,7 +6,7 @@ use borrow.Author.Needs.{needs}
 use lib.ListN.{length, length-set}
 use Rattle.counting.specs.Private.Symbols.{symbolsBefore, symbolsAfter}
 use Rattle.unfolding.specs.Private.Writing.{valueIn}
-use Rattle.counting.proofs.Counted.{rule-there, counts-long}
+use Rattle.counting.proofs.Counted.{rule-there, counts-there}
 use Rattle.unfolding.proofs.unfold.Exact.{own-exact}
 use Rattle.unfolding.proofs.unfold.Single.{single-some, single-written}
 use Rattle.unfolding.proofs.unfold.write_part.Reads as write-part
@@ -17,20 +17,17 @@ module _ (t : ℕ) where
   pub part-own-of-requires : part-lts.Need-own-of-requires (part-claims t) (part-at t) write-part.Post
   part-own-of-requires c κs =
       let (known, room) = c .before .before .before .before .pre .1 in
-      omega (arith, room .below, counts-long known)
-
-  pub part-cast-terminal-of : part-lts.Need-cast-terminal-of (part-claims t) (part-at t) write-part.Post
-  part-cast-terminal-of c = search needs
+      counts-there known _ (room .below)
 
   pub part-terminal-of-requires : part-lts.Need-terminal-of-requires (part-claims t) (part-at t) write-part.Post
   part-terminal-of-requires c κs =
-      let (known, room) = c .before .before .before .before .before .before .before .pre .1 in
+      let (known, room) = c .before .before .before .before .before .before .pre .1 in
       rule-there known _ (room .below)
 
   -- the rule has one symbol of its own
   one : (c : part-lts.Then1 (part-claims t) (part-at t) write-part.Post)
       → let args = c .before .before .before .before .before .before .args in
-      let value = valueIn (args .alphabet .now) (args .form .now) (args .rule .0) in
+      let value = valueIn (args .alphabet .now) (args .table .now) (args .rule .0) in
       length (symbolsBefore value) + length (symbolsAfter value) ≡ 1
   one c =
       let start = c .before .before .before .before .before .before in
@@ -39,7 +36,7 @@ module _ (t : ℕ) where
 
   pub part-slice-write-tree : part-lts.Need-slice-write-tree (part-claims t) (part-at t) write-part.Post
   part-slice-write-tree c =
-      let single = c .before .before in
+      let single = c .before in
       let (known, room) = single .before .before .before .before .before .before .pre .1 in
       omega (arith, room .fits, single-some known _ (room .below) (one single))
 
@@ -48,7 +45,7 @@ module _ (t : ℕ) where
 
   pub part-returns : part-lts.Need-returns (part-claims t) (part-at t) write-part.Post
   part-returns c =
-      let single = c .before .before in
+      let single = c .before in
       let (known, room) = single .before .before .before .before .before .before .pre .1 in
       rw (c .terminal-of .ensures) (single-written known _ (room .below) (one single) _ _ _)
 

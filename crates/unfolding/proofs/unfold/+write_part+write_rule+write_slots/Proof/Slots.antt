@@ -7,12 +7,12 @@ use native.Mathlib.Omega.{arith}
 use lib.ListN.{length}
 use lib.Seq.{sets}
 use Rattle.terms.specs.Form.{Slots}
-use Rattle.terms.specs.FormBytes.{slotOf, formRules}
+use Rattle.terms.specs.FormBytes.{slotOf, tableRules}
 use Rattle.counting.specs.Private.Symbols.{symbolsBefore}
 use Rattle.counting.specs.Private.Counts.{slotsFrom}
 use Rattle.unfolding.specs.Private.Writing.{valueIn, symbolsIn}
 use Rattle.counting.proofs.Slots.{slots-none}
-use Rattle.counting.proofs.Counted.{rule-there, counts-long}
+use Rattle.counting.proofs.Counted.{rule-there, counts-there}
 use Rattle.unfolding.proofs.unfold.Exact.{own-exact}
 use Rattle.unfolding.proofs.unfold.Slots.{SlotStep, slot-step, slot-written}
 use Rattle.unfolding.proofs.unfold.write_slots.Reads as write-slots
@@ -20,20 +20,20 @@ use Rattle.unfolding.proofs.unfold.+write_part+write_rule+write_slots.L
 use Rattle.unfolding.proofs.unfold.+write_part+write_rule+write_slots.Proof.Measure.{slots-at, slots-claims}
 
 abbrev pub Inv-loop : slots-lts.InvT-loop
-Inv-loop alphabet form counts i from to tree₀ at end₀ j₀ tree end j =
+Inv-loop alphabet table counts rule from to tree₀ at end₀ j₀ tree end j =
     (length tree ≡ length tree₀)
-    × Slots (formRules alphabet form) i (slotsFrom (slotOf form i) j to)
-    × (end + length (symbolsIn alphabet form i j to) ≡ at + length (symbolsIn alphabet form i from to))
-    × (sets tree end (symbolsIn alphabet form i j to) ≡ sets tree₀ at (symbolsIn alphabet form i from to))
+    × Slots (tableRules alphabet table) (rule .0) (slotsFrom (slotOf table (rule .0)) j to)
+    × (end + length (symbolsIn alphabet table (rule .0) j to) ≡ at + length (symbolsIn alphabet table (rule .0) from to))
+    × (sets tree end (symbolsIn alphabet table (rule .0) j to) ≡ sets tree₀ at (symbolsIn alphabet table (rule .0) from to))
 
 abbrev pub μ-loop : slots-lts.MeasureT-loop
-μ-loop alphabet form counts i from to tree₀ at end₀ j₀ tree end j = to - j
+μ-loop alphabet table counts rule from to tree₀ at end₀ j₀ tree end j = to - j
 
 module _ (t : ℕ) where
   pub slots-loop-holds : slots-lts.Need-loop-holds (slots-claims t) (slots-at t) write-slots.Post Inv-loop μ-loop
   slots-loop-holds c = (refl, c .before .before .before .before .pre .1 .1 .slots, refl, refl)
 
-  -- the rule's bytes stand in the form
+  -- the rule's bytes stand in the table
   pub slots-slot-of-requires : slots-lts.Need-slot-of-requires (slots-claims t) (slots-at t) write-slots.Post Inv-loop μ-loop
   slots-slot-of-requires c κs =
       let (known, room) = c .before .before .before .before .before .before .pre .1 in
@@ -42,7 +42,7 @@ module _ (t : ℕ) where
   -- the slot of a turn
   slot-known : (c : slots-lts.After-slot-of (slots-claims t) (slots-at t) write-slots.Post Inv-loop μ-loop)
       → let args = c .before .before .before .before .before .before .before .args in
-      SlotStep (args .alphabet .now) (args .form .now) (args .i) (c .before .before .loop .j) (args .to) (c .slot-of .result .0)
+      SlotStep (args .alphabet .now) (args .table .now) (args .rule .0) (c .before .before .loop .j) (args .to) (c .slot-of .result .0)
   slot-known c =
       let (known, room) = c .before .before .before .before .before .before .before .pre .1 in
       slot-step _ _ _ known _ (room .below) _ _ _ (c .before .loop-test .taken) (c .before .before .loop .inv .1) (c .slot-of .ensures)
@@ -56,13 +56,13 @@ module _ (t : ℕ) where
   pub slots-own-of-requires : slots-lts.Need-own-of-requires (slots-claims t) (slots-at t) write-slots.Post Inv-loop μ-loop
   slots-own-of-requires c κs =
       let slot = slot-known (c .before .before .before .before) in
-      omega (arith, counts-long (c .before .before .before .before .before .before .before .before .before .before .before .pre .1 .0))
+      counts-there (c .before .before .before .before .before .before .before .before .before .before .before .pre .1 .0) _ (omega arith)
 
   -- the slot's count is the number of its symbols
   slot-own : (c : slots-lts.After-own-of (slots-claims t) (slots-at t) write-slots.Post Inv-loop μ-loop)
       → let turn = c .before .before .before .before .before in
       let args = turn .before .before .before .before .before .before .before .args in
-      c .own-of .result ≡ length (symbolsBefore (valueIn (args .alphabet .now) (args .form .now) (turn .slot-of .result .0)))
+      c .own-of .result ≡ length (symbolsBefore (valueIn (args .alphabet .now) (args .table .now) (turn .slot-of .result .0)))
   slot-own c =
       let turn = c .before .before .before .before .before in
       let slot = slot-known turn in
@@ -99,5 +99,5 @@ module _ (t : ℕ) where
   slots-returns c =
       let (kept, more, end, same) = c .before .loop .inv in
       let args = c .before .before .before .before .before .before .args in
-      let none = slots-none (slotOf (args .form .now) (args .i)) (c .before .loop .j) (args .to) (c .loop-test .left) in
+      let none = slots-none (slotOf (args .table .now) (args .rule .0)) (c .before .loop .j) (args .to) (c .loop-test .left) in
       (rw (none, add-zero) at end, rw none at same)
