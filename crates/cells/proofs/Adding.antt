@@ -1,4 +1,4 @@
--- What adding a rule and adding a cell do to the form and the cells.
+-- What adding a rule and adding a cell do to the table and the cells.
 use mathlib.Core.Path.{_≡_, refl, ap, _∙_}
 use mathlib.Core.List.{List, [], _∷_, _++_}
 use Prim.Native.Nat.{ℕ, _+_, _*_, _≤_, _<_}

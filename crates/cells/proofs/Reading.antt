@@ -1,9 +1,9 @@
 -- What a cell is, by its fields, and what its fields are, by what it is.
-use mathlib.Core.Path.{_≡_, refl, sym, ap, _∙_}
-use mathlib.Core.List.{List, []}
-use Prim.Native.Nat.{ℕ, zero, suc, _+_, _%_, _<_, _≤_}
+use mathlib.Core.Path.{_≡_, refl, ap}
+use mathlib.Core.List.{List}
+use Prim.Native.Nat.{ℕ, zero, suc, _%_, _<_, _≤_}
 use native.Mathlib.Omega.{arith}
-use lib.ListN.{length, getD, set, replicate}
+use lib.ListN.{getD, set, replicate}
 use Rattle.terms.specs.declared.Rule.{Rule}
 use Rattle.terms.specs.declared.Terminal.{Terminal as Symbol}
 use Rattle.skeletons.specs.Skeleton.{param, shut}
@@ -11,7 +11,6 @@ use Rattle.cells.specs.Cells.{spaceLength, field, Stands, cellWith, cell
 use Rattle.cells.specs.State.{CellAdded, TerminalAdded}
 use Rattle.cells.specs.declared.state.Free.{Free}
 use Rattle.cells.specs.declared.state.Made.{Made}
-use Rattle.cells.specs.declared.cells.Cell.{Cell}
 use Rattle.cells.specs.declared.cells.Cell.the-variants.{Parameter, Closed, Over, Terminal}
 
 module _ (cells : List ℕ) (c : ℕ) where

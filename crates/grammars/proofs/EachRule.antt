@@ -10,7 +10,7 @@ use lib.Dec.{eqb}
 use lib.ListN.{length, getD, drop, set, length-set}
 use lib.Seq.{getD-set-same, getD-set-other}
 use Rattle.terms.specs.Refusal.{_when_}
-use Rattle.terms.specs.Grammar.{Rule, ruleAt, ruleRank}
+use Rattle.terms.specs.Grammar.{Rule, ruleRank}
 use Rattle.terms.specs.Sheet.{rulesBody}
 use Rattle.terms.specs.Check.{mostRules, ruleRefusal}
 use Rattle.grammars.specs.Cursor.{ruleIn}

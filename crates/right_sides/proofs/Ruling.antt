@@ -1,12 +1,12 @@
 -- The rules one after another: the table holds what the model makes of the first rules, and their cells represent the model's skeletons.
 use mathlib.Core.Path.{_≡_, refl, sym, subst, ap, _∙_}
 use mathlib.Core.List.{List, [], _∷_}
-use Prim.Native.Nat.{ℕ, zero, suc, _+_, _*_, _-_, _≤_, _<_}
+use Prim.Native.Nat.{ℕ, suc, _+_, _*_, _-_, _≤_, _<_}
 use native.Mathlib.Omega.{arith}
 use borrow.Author.Count.{below-more}
 use lib.ListN.{length, getD, drop, set, length-set}
 use lib.Seq.{drop-cons, getD-set-same, getD-set-other}
-use Rattle.terms.specs.Grammar.{Rule, ruleAt, ruleRank, rankIn, sumRules}
+use Rattle.terms.specs.Grammar.{Rule, ruleRank, rankIn, sumRules}
 use Rattle.terms.specs.Form.{formBound}
 use Rattle.terms.specs.declared.Rule.{Rule as Number}
 use Rattle.terms.specs.Sheet.{rulesBody}

@@ -1,5 +1,4 @@
 -- `making::write_form` meets its contract: the rules in the table are the model's, and the head has their number and the start.
-use mathlib.Core.Path.{sym}
 use mathlib.Core.List.{List}
 use Prim.Native.Nat.{ℕ}
 use borrow.Author.Needs.{needs}
