@@ -7,7 +7,7 @@ use lib.Dec.{ltb}
 use lib.ListN.{length, take, drop}
 use lib.Seq.{take-at}
 use borrow.Author.Tests.{ltb-false, lt-ltb, le-ltb}
-use Rattle.terms.specs.FormBytes.{ruleCount, tableCount, tableRules, formTree, formRefusal}
+use Rattle.terms.specs.FormBytes.{ruleCount, startOf, tableOf, tableCount, tableRules, formTree, formRefusal}
 use Rattle.terms.specs.Check.{alphabetRefusal}
 use Rattle.terms.specs.Count.{sizeOf, largest, capped, sizeAnswer}
 use Rattle.terms.specs.Calls.{lentAfter, openingRefusal, countsPerRule, rulesCounts, countsOf, sizeRefusal}
@@ -18,8 +18,9 @@ use Rattle.counting.specs.Size.{sized, sizeCall}
 use Rattle.counting.specs.Private.Counts.{CountedTable}
 use Rattle.forms.proofs.Laws.{refused}
 use Rattle.forms.specs.Private.Table.{ValidTable}
-use Rattle.forms.proofs.Rules.{rules-counted, opening-passed}
+use Rattle.forms.proofs.Rules.{rules-counted, parted, opening-passed}
 use Rattle.counting.proofs.Counted.{length-counts}
+use Rattle.counting.proofs.Start.{start-low}
 
 -- size, with n numbers lent
 module _ (alphabet form : List ℕ) (n : ℕ) where
@@ -47,6 +48,13 @@ size-passed alphabet form n e =
     let (opened, r) = none-before (openingRefusal alphabet form) _ e in
     let (a, f) = opening-passed alphabet form opened in
     record { ranked = a; valid = f; room = ltb-false _ _ (no-row 18 (ltb n (countsPerRule * ruleCount form)) 0 r .0) }
+
+-- what a call that has parted the form knows of the table, of the number of its rules, of the start and of the numbers that are lent
+pub sizable-parts : {alphabet form : List ℕ} {n : ℕ} → Sizable alphabet form n → (table : List ℕ) (rules start : ℕ) → table ≡ tableOf form → rules ≡ ruleCount form → start ≡ startOf form
+    → ValidTable alphabet table × (rules ≡ tableCount table) × (start < rules) × (countsPerRule * rules ≤ n)
+sizable-parts {alphabet} {form} p table rules start t r s =
+    let (v, n) = parted alphabet form (p .ranked) (p .valid) table rules t r in
+    (v, n, rw n (start-low alphabet form (p .ranked) (p .valid) table t start s), rw r (p .room))
 
 -- the counts are worked out in front of some numbers
 pub counted-table : {alphabet table : List ℕ} → ValidTable alphabet table → (numbers rest : List ℕ) → numbers ≡ rulesCounts (tableRules alphabet table) ++ rest

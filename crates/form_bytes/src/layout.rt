@@ -3,13 +3,21 @@ use terms::Rule;
 ghost use mathlib.Core.Path.{_≡_};
 ghost use Prim.Native.Nat.{_<_, _≤_};
 ghost use lib.ListN.{length};
-ghost use Rattle.terms.specs.FormBytes.{headLength, ruleCount, startOf, tableOf};
+ghost use Rattle.terms.specs.FormBytes.{headLength, formLength, ruleCount, startOf, tableOf};
 
 // How many bytes the head has.
 pub const HEAD: usize = 4;
 
 // How many bytes a rule has: kind, terminal, hole, 00, and four slots of two bytes.
 pub const RULE: usize = 12;
+
+// How many bytes a form of so many rules has.
+pub fn form_length(rules: usize) -> usize
+    requires { ⌜ rules ≤ 65536 ⌝ }
+    ensures { λ r. ⌜ r ≡ formLength rules ⌝ }
+{
+    HEAD + RULE * rules
+}
 
 // The number of rules.
 pub fn rule_count(form: &[u8]) -> usize

@@ -43,7 +43,7 @@ fn is_valid(alphabet: &[u8], form: &[u8]) -> bool
     if MOST_RULES < count {
         return false;
     }
-    if form.len() != layout::HEAD + layout::RULE * count {
+    if form.len() != layout::form_length(count) {
         return false;
     }
     let table = layout::table_of(form);

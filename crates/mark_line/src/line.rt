@@ -31,7 +31,7 @@ fn size_of(sheet: &[u8], form: &[u8]) -> u64
     ensures { λ r. ⌜ r ≡ capped (sizeOf (sheetTree (now (sheet .entry)))) ⌝ }
 {
     let rules = word(sheet, 4);
-    let end = layout::HEAD + layout::RULE * layout::rule_count(form);
+    let end = layout::form_length(layout::rule_count(form));
     let mut counts = [0u64; COUNTS * MOST_ASKED];
     match size(&sheet[CONTENTS..rules], &form[..end], &mut counts) {
         Size::Refused(_) => 0,

@@ -50,7 +50,7 @@ pub fn rule_of(form: &[u8], rules: usize, refusal: u8, number: Rule) -> RuleRead
     if rules <= place {
         return RuleReading::Refused(NO_RULE);
     }
-    if form.len() < layout::HEAD + layout::RULE * (place + 1) {
+    if form.len() < layout::form_length(place + 1) {
         return RuleReading::Refused(NO_RULE);
     }
     RuleReading::Read(rule_at(layout::table_of(form), number))

@@ -34,7 +34,7 @@ rules-at (r ∷ rules) (suc i) k h l =
     rw e (getD-append-add (ruleBytes r) (rulesBytes rules) (ruleLength * i + k) 0 ∙ rules-at rules i k (omega arith) l)
 
 -- a byte behind the head is one of the table's
-behind-head : (form : List ℕ) (i k : ℕ) → getD form (headLength + (ruleLength * i + k)) 0 ≡ ruleByte (tableOf form) i k
+pub behind-head : (form : List ℕ) (i k : ℕ) → getD form (headLength + (ruleLength * i + k)) 0 ≡ ruleByte (tableOf form) i k
 behind-head form i k = sym (getD-drop headLength form (ruleLength * i + k) 0)
 
 module _ (rules : List Rule) (start : ℕ) where

@@ -30,25 +30,33 @@ returns-3 c =
     let some = c .before in
     rw (← some .before .rule-count .ensures .0, le-ltb _ _ (some .if2 .left), lt-ltb _ _ (c .if3 .taken))
 
-mul-if4 : tie.Need-mul-if4
-mul-if4 c = search needs
-
-add-if4 : tie.Need-add-if4
-add-if4 c = search needs
+form-length-requires : tie.Need-form-length-requires
+form-length-requires c κs = search needs
 
 returns-4 : tie.Need-returns-4
 unfolding validFor
 returns-4 c =
-    let few = c .before in
+    let asked = c .before in
+    let few = asked .before in
     let some = few .before in
-    rw (← some .before .rule-count .ensures .0, le-ltb _ _ (some .if2 .left), le-ltb _ _ (few .if3 .left), ne-eqb _ _ (c .if4 .taken))
+    rw (
+      ← some .before .rule-count .ensures .0,
+      le-ltb _ _ (some .if2 .left),
+      le-ltb _ _ (few .if3 .left),
+      ← asked .form-length .ensures,
+      ne-eqb _ _ (c .if4 .taken),
+    )
 
 table-of-requires : tie.Need-table-of-requires
 table-of-requires c κs = search needs
 
 -- the table has room for all rules, and for no more
-table-holds : (c : tie.After-table-of) → length (c .table-of .result .now) ≡ ruleLength * c .before .before .before .before .rule-count .result
-table-holds c = rw (c .table-of .ensures) (omega (arith, length-drop headLength (c .before .before .before .before .before .before .before .before .args .form .now)))
+table-holds : (c : tie.After-table-of) → length (c .table-of .result .now) ≡ ruleLength * c .before .before .before .before .before .rule-count .result
+table-holds c =
+    let asked = c .before .before in
+    let counted = asked .before .before .before in
+    let form = counted .before .before .before .before .args .form .now in
+    rw (c .table-of .ensures) (omega (arith, c .before .if4 .left, asked .form-length .ensures, length-drop headLength form))
 
 start-of-requires : tie.Need-start-of-requires
 start-of-requires c κs = search needs
@@ -62,12 +70,14 @@ returns-5 c =
     let begun = c .before in
     let parted = begun .before .before in
     let long = parted .before in
-    let few = long .before in
+    let asked = long .before in
+    let few = asked .before in
     let some = few .before in
     rw (
       ← some .before .rule-count .ensures .0,
       le-ltb _ _ (some .if2 .left),
       le-ltb _ _ (few .if3 .left),
+      ← asked .form-length .ensures,
       eq-eqb _ _ (long .if4 .left),
       ← begun .before .start-of .ensures,
       ← parted .table-of .ensures,
@@ -83,13 +93,15 @@ returns-6 c =
     let begun = c .before .before in
     let parted = begun .before .before in
     let long = parted .before in
-    let few = long .before in
+    let asked = long .before in
+    let few = asked .before in
     let some = few .before in
     rw (
       c .rules-fit .ensures,
       ← some .before .rule-count .ensures .0,
       le-ltb _ _ (some .if2 .left),
       le-ltb _ _ (few .if3 .left),
+      ← asked .form-length .ensures,
       eq-eqb _ _ (long .if4 .left),
       ← begun .before .start-of .ensures,
       ← parted .table-of .ensures,
@@ -104,8 +116,7 @@ is-valid-spec =
     rule-count-requires
     returns-2
     returns-3
-    mul-if4
-    add-if4
+    form-length-requires
     returns-4
     table-of-requires
     start-of-requires

@@ -1,15 +1,14 @@
 -- `labelling::label::label` meets its contract: what passes is parted and looked up, with room for the counts of a small form or of the largest.
 use mathlib.Core.Path.{_≡_, sym, _∙_}
-use Prim.Native.Nat.{_<_}
+use Prim.Native.Nat.{_*_, _≤_, _<_}
 use native.Mathlib.Omega.{arith}
 use borrow.Author.Needs.{needs}
 use lib.ListN.{length}
 use Rattle.terms.specs.FormBytes.{tableCount}
-use Rattle.terms.specs.Calls.{sizeRefusal}
+use Rattle.terms.specs.Calls.{countsPerRule, sizeRefusal}
 use Rattle.forms.specs.Private.Table.{ValidTable}
-use Rattle.forms.proofs.Rules.{head-long, parted}
-use Rattle.counting.proofs.Start.{start-low}
-use Rattle.counting.proofs.Answers.{Sizable, size-passed}
+use Rattle.forms.proofs.Rules.{head-long}
+use Rattle.counting.proofs.Answers.{Sizable, size-passed, sizable-parts}
 use Rattle.labelling.proofs.Answers.{label-unsized, label-found}
 use Rattle.labelling.proofs.label.label.Statement.{statement}
 use Rattle.labelling.proofs.label.label.Tie as tie
@@ -28,15 +27,12 @@ passes c = size-passed _ _ _ (none c)
 abbrev passed : tie.After-start-of → tie.Else1
 passed c = c .before .before .before
 
--- what is known of the table, of the number of its rules and of the start
+-- what is known of the table, of the number of its rules, of the start and of the numbers that are lent
 table-known : (c : tie.After-start-of) → let table = c .before .before .table-of .result .now in
     let rules = c .before .rule-count .result in
-    ValidTable (begin (passed c) .args .alphabet .now) table × (rules ≡ tableCount table) × (c .start-of .result .0 < rules)
-table-known c =
-    let p = passes (passed c) in
-    let t = c .before .before .table-of .ensures in
-    let (v, n) = parted _ _ (p .ranked) (p .valid) _ _ t (c .before .rule-count .ensures .0) in
-    (v, n, rw n (start-low _ _ (p .ranked) (p .valid) _ t _ (c .start-of .ensures)))
+    let a = begin (passed c) .args in
+    ValidTable (a .alphabet .now) table × (rules ≡ tableCount table) × (c .start-of .result .0 < rules) × (countsPerRule * rules ≤ length (a .counts .now))
+table-known c = sizable-parts (passes (passed c)) _ _ _ (c .before .before .table-of .ensures) (c .before .rule-count .ensures .0) (c .start-of .ensures)
 
 check-size-requires : tie.Need-check-size-requires
 check-size-requires c κs = search needs
@@ -59,9 +55,9 @@ slice-aggregate-label-with c = search needs
 label-with-requires : tie.Need-label-with-requires
 label-with-requires c κs =
     let parts = c .before .before .before in
-    let (v, n, low) = table-known parts in
+    let (v, n, low, room) = table-known parts in
     let small = c .before .before .if2 .taken in
-    (v, n, low, rw (parts .before .rule-count .ensures .0) (passes (passed parts) .room), omega arith)
+    (v, n, low, room, omega arith)
 
 same-length : tie.Need-same-length
 same-length c = search needs
@@ -78,8 +74,8 @@ slice-aggregate-label-with-2 c = search needs
 label-with-requires-2 : tie.Need-label-with-requires-2
 label-with-requires-2 c κs =
     let parts = c .before .before .before in
-    let (v, n, low) = table-known parts in
-    (v, n, low, rw (parts .before .rule-count .ensures .0) (passes (passed parts) .room), omega (arith, v .few, n))
+    let (v, n, low, room) = table-known parts in
+    (v, n, low, room, omega (arith, v .few, n))
 
 same-length-2 : tie.Need-same-length-2
 same-length-2 c = search needs
