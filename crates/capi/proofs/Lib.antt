@@ -1,4 +1,3 @@
 pub mod Answered
-pub mod Made
 pub mod RuleRead
 pub mod Marked

@@ -1,15 +1,12 @@
 -- Results that a call hands out through a pointer (document 01, "Refusals with a sheet for each": a refusal is its number only).
-use mathlib.Core.Path.{_≡_}
 use mathlib.Core.List.{List, [], _∷_}
 use Prim.Native.Nat.{ℕ, zero, suc}
 use lib.Dec.{leb, ltb}
 use Rattle.terms.specs.Refusal.{_when_, first}
-use Rattle.terms.specs.Sheet.{alphabetOf, rulesOf}
 use Rattle.terms.specs.FormBytes.{ruleCount}
 use Rattle.terms.specs.Count.{Size, exact, over, largest}
 use Rattle.terms.specs.Calls.{openingRefusal}
 use Rattle.form_bytes.specs.declared.rule.FormRule.{FormRule}
-use Rattle.making.specs.Making.{FormWritten}
 
 -- what stands behind the pointer after a call: the result, or what stood there before where the call was refused (01 Refusals)
 abbrev pub resultAfter : ℕ → ℕ → ℕ → ℕ
@@ -32,8 +29,3 @@ ruleCallRefusal alphabet form number room = first (
     ∷ 19 when (ltb room 7)
     ∷ 21 when (leb (ruleCount form) number)
     ∷ [])
-
--- how form making leaves the slice and the length behind the pointer: as they were where it refuses, else with a form of the sheet (01 One-hole form)
-abbrev pub MadeLeft : List ℕ → ℕ → ℕ → ℕ → List ℕ → List ℕ → Type 0
-MadeLeft sheet zero written before exit entry = FormWritten (alphabetOf sheet) (rulesOf sheet) written exit entry
-MadeLeft sheet (suc n) written before exit entry = (written ≡ before) × (exit ≡ entry)

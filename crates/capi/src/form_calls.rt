@@ -1,11 +1,11 @@
 // The calls on a form.
-use counting::answer::Size;
-use counting::size::size;
-use evaluation::evaluate::Evaluation;
 use evaluation::evaluate::evaluate;
 use labelling::answer::Label;
 use labelling::label::label;
-use unfolding::unfold::Unfolding;
+use sizing::answer::Size;
+use sizing::size::size;
+use terms::answers::LengthAnswer;
+use terms::answers::MaskAnswer;
 use unfolding::unfold::unfold;
 ghost use mathlib.Core.Path.{_≡_};
 ghost use lib.ListN.{length};
@@ -29,8 +29,8 @@ pub extern "C" fn ewf_evaluate(
     ensures mask { λ _. ⌜ now (mask .exit) ≡ resultAfter (evaluationRefusal (now (alphabet .entry)) (now (automaton .entry)) (now (form .entry)) (length (now (relations .entry)))) (formMask (now (alphabet .entry)) (now (automaton .entry)) (now (form .entry))) (now (mask .entry)) ⌝ }
 {
     match evaluate(alphabet, automaton, form, relations) {
-        Evaluation::Refused(n) => n,
-        Evaluation::Mask(states) => {
+        MaskAnswer::Refused(n) => n,
+        MaskAnswer::Mask(states) => {
             *mask = states;
             0
         }
@@ -52,8 +52,8 @@ pub extern "C" fn ewf_unfold(
     ensures nodes { λ _. ⌜ now (nodes .exit) ≡ resultAfter (unfoldingRefusal (now (alphabet .entry)) (now (form .entry)) (length (now (counts .entry))) (length (now (tree .entry)))) (sizeOf (formTree (now (alphabet .entry)) (now (form .entry)))) (now (nodes .entry)) ⌝ }
 {
     match unfold(alphabet, form, counts, tree) {
-        Unfolding::Refused(n) => n,
-        Unfolding::Written(n) => {
+        LengthAnswer::Refused(n) => n,
+        LengthAnswer::Written(n) => {
             *nodes = n;
             0
         }

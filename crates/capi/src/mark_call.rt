@@ -10,7 +10,7 @@ ghost use Rattle.terms.specs.Sheet.{sheetMask, sheetVerdict};
 ghost use Rattle.terms.specs.Calls.{markingRefusal};
 ghost use Rattle.tallies.specs.Tally.{counts};
 ghost use Rattle.tallies.specs.Counted.{marking, counted};
-ghost use Rattle.marking.specs.Marking.{SlicesLeft};
+ghost use Rattle.marking.specs.Marking.{answerOfMark, SlicesLeft};
 ghost use Rattle.capi.specs.Result.{resultAfter};
 ghost use Rattle.capi.specs.Mark.{tallyOf, verdictNumber, markRefusal, tallyLeft};
 
@@ -20,8 +20,8 @@ const COUNTS: usize = 3;
 // Marks a sheet and leaves the moved counts in the tally; later numbers are kept.
 fn mark_and_count(sheet: &[u8], form: &mut [u8], relations: &mut [u64], tally: &mut [u32]) -> Mark
     requires { ⌜ 3 ≤ length (now tally) ⌝ }
-    ensures answer { λ r. ⌜ r ≡ marking (tallyOf (now (tally .entry))) (now (sheet .entry)) (length (now (form .entry))) (length (now (relations .entry))) ⌝ }
-    ensures tally { λ r. ⌜ now (tally .exit) ≡ counts (counted r (tallyOf (now (tally .entry)))) ++ drop 3 (now (tally .entry)) ⌝ }
+    ensures answer { λ r. ⌜ answerOfMark r ≡ marking (tallyOf (now (tally .entry))) (now (sheet .entry)) (length (now (form .entry))) (length (now (relations .entry))) ⌝ }
+    ensures tally { λ r. ⌜ now (tally .exit) ≡ counts (counted (answerOfMark r) (tallyOf (now (tally .entry)))) ++ drop 3 (now (tally .entry)) ⌝ }
     ensures slices { λ _. ⌜ SlicesLeft (markingRefusal (counts (tallyOf (now (tally .entry)))) (now (sheet .entry)) (length (now (form .entry))) (length (now (relations .entry)))) (now (sheet .entry)) (now (form .exit)) (now (form .entry)) (now (relations .exit)) (now (relations .entry)) ⌝ }
 {
     let before = Tally {

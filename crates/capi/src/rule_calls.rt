@@ -8,6 +8,7 @@ ghost use mathlib.Core.Path.{_≡_};
 ghost use mathlib.Core.List.{_++_};
 ghost use Prim.Native.Nat.{_≤_};
 ghost use lib.ListN.{length, drop};
+ghost use Rattle.terms.specs.FormBytes.{tableOf};
 ghost use Rattle.terms.specs.Calls.{lentAfter};
 ghost use Rattle.form_bytes.specs.Fields.{fieldsAt};
 ghost use Rattle.capi.specs.Result.{ruleNumbers, ruleCallRefusal};
@@ -50,13 +51,14 @@ fn write_numbers(read: FormRule, rule: &mut [u16])
 #[no_mangle]
 pub extern "C" fn ewf_read_rule(alphabet: &[u8], form: &[u8], number: usize, rule: &mut [u16]) -> u8
     ensures refusal { λ r. ⌜ r ≡ ruleCallRefusal (now (alphabet .entry)) (now (form .entry)) number (length (now (rule .entry))) ⌝ }
-    ensures rule { λ _. ⌜ now (rule .exit) ≡ lentAfter (ruleCallRefusal (now (alphabet .entry)) (now (form .entry)) number (length (now (rule .entry)))) (ruleNumbers (fieldsAt (now (form .entry)) number)) (now (rule .entry)) ⌝ }
+    ensures rule { λ _. ⌜ now (rule .exit) ≡ lentAfter (ruleCallRefusal (now (alphabet .entry)) (now (form .entry)) number (length (now (rule .entry)))) (ruleNumbers (fieldsAt (tableOf (now (form .entry))) number)) (now (rule .entry)) ⌝ }
 {
     let refusal = rule_call_refusal(alphabet, form, number, rule.len());
     if refusal != 0 {
         return refusal;
     }
-    let read = rule_at(form, Rule(number as u16));
+    let place = number as u16;
+    let read = rule_at(layout::table_of(form), Rule(place));
     write_numbers(read, rule);
     0
 }

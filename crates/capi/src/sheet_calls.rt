@@ -1,20 +1,23 @@
 // The calls on a sheet.
-use making::Making;
 use making::make_form;
+use terms::answers::LengthAnswer;
 ghost use mathlib.Core.Path.{_≡_};
 ghost use lib.ListN.{length};
 ghost use Rattle.terms.specs.Calls.{makingRefusal};
-ghost use Rattle.capi.specs.Result.{MadeLeft};
+ghost use Rattle.making.specs.Making.{formOf, formLeft, FormMade};
+ghost use Rattle.capi.specs.Result.{resultAfter};
 
 // The one-hole form of a sheet, and its length.
 #[no_mangle]
 pub extern "C" fn ewf_make_form(sheet: &[u8], form: &mut [u8], written: &mut usize) -> u8
     ensures refusal { λ r. ⌜ r ≡ makingRefusal (now (sheet .entry)) (length (now (form .entry))) ⌝ }
-    ensures form { λ _. ⌜ MadeLeft (now (sheet .entry)) (makingRefusal (now (sheet .entry)) (length (now (form .entry)))) (now (written .exit)) (now (written .entry)) (now (form .exit)) (now (form .entry)) ⌝ }
+    ensures written { λ _. ⌜ now (written .exit) ≡ resultAfter (makingRefusal (now (sheet .entry)) (length (now (form .entry)))) (length (formOf (now (sheet .entry)))) (now (written .entry)) ⌝ }
+    ensures slice { λ _. ⌜ now (form .exit) ≡ formLeft (now (sheet .entry)) (now (form .entry)) ⌝ }
+    ensures form { λ _. ⌜ (makingRefusal (now (sheet .entry)) (length (now (form .entry))) ≡ 0 → FormMade (now (sheet .entry)) (length (now (form .entry)))) ⌝ }
 {
     match make_form(sheet, form) {
-        Making::Refused(n) => n,
-        Making::Written(n) => {
+        LengthAnswer::Refused(n) => n,
+        LengthAnswer::Written(n) => {
             *written = n;
             0
         }

@@ -1,7 +1,7 @@
 // The calls on a plain tree.
-use plain_walk::answer::Walk;
 use plain_walk::walk::walk;
-use wrapping::wrap::Wrapping;
+use terms::answers::LengthAnswer;
+use terms::answers::MaskAnswer;
 use wrapping::wrap::wrap;
 ghost use mathlib.Core.Path.{_≡_};
 ghost use lib.ListN.{length};
@@ -23,8 +23,8 @@ pub extern "C" fn ewf_walk(
     ensures mask { λ _. ⌜ now (mask .exit) ≡ resultAfter (walkRefusal (now (alphabet .entry)) (now (automaton .entry)) (now (tree .entry)) (length (now (masks .entry)))) (walkMask (now (alphabet .entry)) (now (automaton .entry)) (now (tree .entry))) (now (mask .entry)) ⌝ }
 {
     match walk(alphabet, automaton, tree, masks) {
-        Walk::Refused(n) => n,
-        Walk::Mask(states) => {
+        MaskAnswer::Refused(n) => n,
+        MaskAnswer::Mask(states) => {
             *mask = states;
             0
         }
@@ -45,8 +45,8 @@ pub extern "C" fn ewf_wrap(
     ensures written { λ _. ⌜ now (written .exit) ≡ resultAfter (wrapRefusal (now (alphabet .entry)) (now (tree .entry)) (now (automaton .entry)) (length (now (sheet .entry)))) (length (wrapped (now (alphabet .entry)) (now (tree .entry)) (now (automaton .entry)))) (now (written .entry)) ⌝ }
 {
     match wrap(alphabet, tree, automaton, sheet) {
-        Wrapping::Refused(n) => n,
-        Wrapping::Written(n) => {
+        LengthAnswer::Refused(n) => n,
+        LengthAnswer::Written(n) => {
             *written = n;
             0
         }

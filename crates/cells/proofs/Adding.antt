@@ -1,4 +1,4 @@
--- What adding a rule and adding a cell do to the form and the cells.
+-- What adding a rule and adding a cell do to the table and the cells.
 use mathlib.Core.Path.{_≡_, refl, ap, _∙_}
 use mathlib.Core.List.{List, [], _∷_, _++_}
 use Prim.Native.Nat.{ℕ, _+_, _*_, _≤_, _<_}
@@ -10,7 +10,7 @@ use Rattle.skeletons.specs.Skeleton.{size}
 use Rattle.terms.proofs.Form.Valid.{length-end}
 use Rattle.form_bytes.specs.declared.rule.FormRule.{FormRule}
 use Rattle.cells.specs.Bytes.{fieldsFor, Holds}
-use Rattle.cells.specs.Cells.{field, Stands, Row, shutFields, underFields, branchFields}
+use Rattle.cells.specs.Cells.{field, Stands, Row, closedFields, overFields, terminalFields}
 use Rattle.cells.specs.State.{RuleAdded, CellAdded, Room, Grown}
 use Rattle.cells.specs.declared.state.Free.{Free}
 use Rattle.cells.specs.declared.state.Made.{Made}
@@ -19,9 +19,9 @@ use Rattle.cells.proofs.Standing.{stands-kept, row-kept, row-raised}
 
 -- a rule added
 
-module _ {rule : FormRule} {free free′ : Free} {form form′ : List ℕ} (a : RuleAdded rule free form free′ form′) (rs : List Rule) (x : Rule) (held : Holds form rs) (counted : free .rule .0 ≡ length rs) where
-  pub added-held : rule ≡ fieldsFor x → Holds form′ (rs ++ (x ∷ []))
-  added-held e = held-more form′ form rs x held (rw (e, counted) at (a .written))
+module _ {rule : FormRule} {free free′ : Free} {table table′ : List ℕ} (a : RuleAdded rule free table free′ table′) (rs : List Rule) (x : Rule) (held : Holds table rs) (counted : free .rule .0 ≡ length rs) where
+  pub added-held : rule ≡ fieldsFor x → Holds table′ (rs ++ (x ∷ []))
+  added-held e = held-more table′ table rs x held (rw (e, counted) at (a .written))
 
   pub added-counted : free′ .rule .0 ≡ length (rs ++ (x ∷ []))
   added-counted = omega (arith, a .next, length-end rs x)
@@ -45,10 +45,10 @@ module _ {fields space space′ : List ℕ} {free : Free} {r : Made} (b : CellAd
   made-lower = omega (arith, b .made, b .next)
 
 module _ {space space′ : List ℕ} {free : Free} {r : Made} where
-  pub shut-stands : (a : ℕ) → CellAdded (shutFields a) free space r space′ → Stands space′ (r .cell) (shut a)
+  pub shut-stands : (a : ℕ) → CellAdded (closedFields a) free space r space′ → Stands space′ (r .cell) (shut a)
   shut-stands a b = (new-field b 0 (omega arith), new-field b 1 (omega arith))
 
-  pub under-stands : (c child : ℕ) (s : Skeleton) → child < free .cell → Stands space child s → CellAdded (underFields c child) free space r space′
+  pub under-stands : (c child : ℕ) (s : Skeleton) → child < free .cell → Stands space child s → CellAdded (overFields c child) free space r space′
       → Stands space′ (r .cell) (under c s)
   under-stands c child s h p b = (
     new-field b 0 (omega arith),
@@ -58,7 +58,7 @@ module _ {space space′ : List ℕ} {free : Free} {r : Made} where
   )
 
   pub branch-stands : (f n c₀ c₁ c₂ c₃ : ℕ) (ss : Skeletons) → f < 256 → n ≡ size ss → Row space (free .cell) (c₀ ∷ c₁ ∷ c₂ ∷ c₃ ∷ []) ss
-      → CellAdded (branchFields f n c₀ c₁ c₂ c₃) free space r space′ → Stands space′ (r .cell) (branch f ss)
+      → CellAdded (terminalFields f n c₀ c₁ c₂ c₃) free space r space′ → Stands space′ (r .cell) (branch f ss)
   branch-stands f n c₀ c₁ c₂ c₃ ss small e p b = (
     new-field b 0 (omega arith),
     new-field b 1 (omega arith),
@@ -69,7 +69,7 @@ module _ {space space′ : List ℕ} {free : Free} {r : Made} where
 
 -- a cell added, and a rule before it
 
-pub cell-grown : {fields form space space′ : List ℕ} {free : Free} {r : Made} → CellAdded fields free space r space′ → Grown 0 1 form space free form space′ (r .free)
+pub cell-grown : {fields table space space′ : List ℕ} {free : Free} {r : Made} → CellAdded fields free space r space′ → Grown 0 1 table space free table space′ (r .free)
 cell-grown b = record {
   long = refl;
   all = b .written .kept .long;
@@ -81,7 +81,7 @@ cell-grown b = record {
   below = old-cell b;
 }
 
-pub rule-grown : {rule : FormRule} {form form′ space : List ℕ} {free free′ : Free} → RuleAdded rule free form free′ form′ → Grown 1 0 form space free form′ space free′
+pub rule-grown : {rule : FormRule} {table table′ space : List ℕ} {free free′ : Free} → RuleAdded rule free table free′ table′ → Grown 1 0 table space free table′ space free′
 rule-grown a = record {
   long = a .written .kept .long;
   all = refl;
@@ -94,8 +94,8 @@ rule-grown a = record {
 }
 
 -- one step after another, and a step that adds less
-pub grown-then : {m n m′ n′ : ℕ} {form form′ form″ space space′ space″ : List ℕ} {free free′ free″ : Free} → Grown m n form space free form′ space′ free′
-    → Grown m′ n′ form′ space′ free′ form″ space″ free″ → Grown (m + m′) (n + n′) form space free form″ space″ free″
+pub grown-then : {m n m′ n′ : ℕ} {table table′ table″ space space′ space″ : List ℕ} {free free′ free″ : Free} → Grown m n table space free table′ space′ free′
+    → Grown m′ n′ table′ space′ free′ table″ space″ free″ → Grown (m + m′) (n + n′) table space free table″ space″ free″
 grown-then a b = record {
   long = b .long ∙ a .long;
   all = b .all ∙ a .all;
@@ -107,8 +107,8 @@ grown-then a b = record {
   below = λ k h. b .below k (omega (arith, a .more-cells)) ∙ a .below k h;
 }
 
-pub grown-within : {m n m′ n′ : ℕ} {form form′ space space′ : List ℕ} {free free′ : Free} → free′ .rule .0 ≤ free .rule .0 + m′ → free′ .cell ≤ free .cell + n′
-    → Grown m n form space free form′ space′ free′ → Grown m′ n′ form space free form′ space′ free′
+pub grown-within : {m n m′ n′ : ℕ} {table table′ space space′ : List ℕ} {free free′ : Free} → free′ .rule .0 ≤ free .rule .0 + m′ → free′ .cell ≤ free .cell + n′
+    → Grown m n table space free table′ space′ free′ → Grown m′ n′ table space free table′ space′ free′
 grown-within h l a = record {
   long = a .long;
   all = a .all;
@@ -120,12 +120,12 @@ grown-within h l a = record {
   below = a .below;
 }
 
-pub grown-less : {m n m′ n′ : ℕ} {form form′ space space′ : List ℕ} {free free′ : Free} → m ≤ m′ → n ≤ n′ → Grown m n form space free form′ space′ free′
-    → Grown m′ n′ form space free form′ space′ free′
+pub grown-less : {m n m′ n′ : ℕ} {table table′ space space′ : List ℕ} {free free′ : Free} → m ≤ m′ → n ≤ n′ → Grown m n table space free table′ space′ free′
+    → Grown m′ n′ table space free table′ space′ free′
 grown-less h l a = grown-within (omega (arith, a .few-rules)) (omega (arith, a .few-cells)) a
 
 -- what cells represent after a step
-module _ {m n : ℕ} {form form′ space space′ : List ℕ} {free free′ : Free} (g : Grown m n form space free form′ space′ free′) where
+module _ {m n : ℕ} {table table′ space space′ : List ℕ} {free free′ : Free} (g : Grown m n table space free table′ space′ free′) where
   pub grown-stands : (c : ℕ) (s : Skeleton) → c < free .cell → Stands space c s → Stands space′ c s
   grown-stands c s h p = stands-kept space′ space (free .cell) (g .below) c s h p
 
@@ -136,8 +136,8 @@ module _ {m n : ℕ} {form form′ space space′ : List ℕ} {free free′ : Fr
   grown-rows xs ss p = row-raised space′ (free .cell) (free′ .cell) (g .more-cells) xs ss (grown-row (free .cell) (omega arith) xs ss p)
 
 -- room that is left after a step
-pub room-left : {m n m′ n′ : ℕ} {form form′ space space′ : List ℕ} {free free′ : Free} → Room (m + m′) (n + n′) form space free
-    → Grown m n form space free form′ space′ free′ → Room m′ n′ form′ space′ free′
+pub room-left : {m n m′ n′ : ℕ} {table table′ space space′ : List ℕ} {free free′ : Free} → Room (m + m′) (n + n′) table space free
+    → Grown m n table space free table′ space′ free′ → Room m′ n′ table′ space′ free′
 room-left r g = record {
   fits = omega (arith, r .fits, g .long, g .few-rules);
   numbers = omega (arith, r .numbers, g .few-rules);
@@ -145,11 +145,11 @@ room-left r g = record {
   left = omega (arith, r .left, g .few-cells);
 }
 
-pub room-less : {m n m′ n′ : ℕ} {form space : List ℕ} {free : Free} → m′ ≤ m → n′ ≤ n → Room m n form space free → Room m′ n′ form space free
+pub room-less : {m n m′ n′ : ℕ} {table space : List ℕ} {free : Free} → m′ ≤ m → n′ ≤ n → Room m n table space free → Room m′ n′ table space free
 room-less h l r = record { fits = omega (arith, r .fits); numbers = omega (arith, r .numbers); all = r .all; left = omega (arith, r .left) }
 
 -- nothing added
-pub grown-none : {m n : ℕ} {form space : List ℕ} {free : Free} → Grown m n form space free form space free
+pub grown-none : {m n : ℕ} {table space : List ℕ} {free : Free} → Grown m n table space free table space free
 grown-none = record {
   long = refl;
   all = refl;

@@ -1,11 +1,11 @@
 -- Bytes put into a list at a place: what stands there then, and what is kept.
 use mathlib.Core.Path.{_≡_, sym, ap, _∙_}
 use mathlib.Core.List.{List, _++_}
-use Prim.Native.Nat.{ℕ, _+_, _-_, _≤_, _<_}
+use Prim.Native.Nat.{ℕ, _+_, _*_, _-_, _≤_, _<_}
 use native.Mathlib.Omega.{arith}
 use lib.ListN.{length, getD, take, drop, length-append, length-drop, List·getD-append}
 use lib.Seq.{length-take-le, getD-take, getD-drop, getD-append-add}
-use Rattle.terms.specs.FormBytes.{ruleOffset, headBytes}
+use Rattle.terms.specs.FormBytes.{headLength, ruleLength, headBytes}
 use Rattle.form_bytes.specs.declared.rule.FormRule.{FormRule}
 use Rattle.cells.specs.Bytes.{pasted, bytesOf, Kept, RuleWritten, HeadWritten}
 
@@ -31,13 +31,13 @@ module _ (at : ℕ) (bytes l : List ℕ) (fits : at + length bytes ≤ length l)
         ∙ ap (λ m. getD l m 0) b);
   }
 
-pub rule-written : (number : ℕ) (rule : FormRule) (written exit entry : List ℕ) → ruleOffset number + 12 ≤ length entry → written ≡ bytesOf rule
-    → exit ≡ pasted (ruleOffset number) written entry → RuleWritten number rule exit entry
+pub rule-written : (number : ℕ) (rule : FormRule) (written exit entry : List ℕ) → ruleLength * number + ruleLength ≤ length entry → written ≡ bytesOf rule
+    → exit ≡ pasted (ruleLength * number) written entry → RuleWritten number rule exit entry
 rule-written number rule written exit entry fits is e =
     rw (e, is)
-    record { bytes = pasted-at (ruleOffset number) (bytesOf rule) entry fits; kept = pasted-keeps (ruleOffset number) (bytesOf rule) entry fits }
+    record { bytes = pasted-at (ruleLength * number) (bytesOf rule) entry fits; kept = pasted-keeps (ruleLength * number) (bytesOf rule) entry fits }
 
-pub head-written : (count start : ℕ) (written exit entry : List ℕ) → 4 ≤ length entry → written ≡ headBytes count start → exit ≡ pasted 0 written entry
+pub head-written : (count start : ℕ) (written exit entry : List ℕ) → headLength ≤ length entry → written ≡ headBytes count start → exit ≡ pasted 0 written entry
     → HeadWritten count start exit entry
 head-written count start written exit entry fits is e =
     rw (e, is)

@@ -1,13 +1,13 @@
-// Writing a form: its rules one by one, and its head.
+// Writing a form: the rules of its table one by one, and its head.
 use checks::bytes::copy_at;
 use form_bytes::layout::HEAD;
 use form_bytes::layout::RULE;
 use form_bytes::rule::FormRule;
 use terms::Rule;
 ghost use mathlib.Core.Path.{_≡_};
-ghost use Prim.Native.Nat.{_+_, _≤_};
+ghost use Prim.Native.Nat.{_+_, _*_, _≤_};
 ghost use lib.ListN.{length};
-ghost use Rattle.terms.specs.FormBytes.{ruleOffset, headBytes};
+ghost use Rattle.terms.specs.FormBytes.{headLength, ruleLength, headBytes};
 ghost use Rattle.cells.specs.Bytes.{bytesOf, RuleWritten, HeadWritten};
 
 // The bytes of a rule.
@@ -42,18 +42,18 @@ fn head_bytes(count: usize, start: Rule) -> [u8; HEAD]
     ]
 }
 
-// Writes the rule of a number.
-pub fn write_rule(form: &mut [u8], number: Rule, rule: FormRule)
-    requires { ⌜ ruleOffset (number .0) + 12 ≤ length (now form) ⌝ }
-    ensures { λ _. ⌜ RuleWritten (number .0) rule (now (form .exit)) (now (form .entry)) ⌝ }
+// Writes the rule of a number into the table.
+pub fn write_rule(table: &mut [u8], number: Rule, rule: FormRule)
+    requires { ⌜ ruleLength * number .0 + ruleLength ≤ length (now table) ⌝ }
+    ensures { λ _. ⌜ RuleWritten (number .0) rule (now (table .exit)) (now (table .entry)) ⌝ }
 {
     let bytes = rule_bytes(rule);
-    copy_at(&bytes, form, HEAD + RULE * (number.0 as usize));
+    copy_at(&bytes, table, RULE * (number.0 as usize));
 }
 
 // Writes the head: the number of rules, and the start.
 pub fn write_head(form: &mut [u8], count: usize, start: Rule)
-    requires { ⌜ 4 ≤ length (now form) ⌝ }
+    requires { ⌜ headLength ≤ length (now form) ⌝ }
     ensures { λ _. ⌜ HeadWritten count (start .0) (now (form .exit)) (now (form .entry)) ⌝ }
 {
     let bytes = head_bytes(count, start);

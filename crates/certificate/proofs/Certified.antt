@@ -1,30 +1,24 @@
 -- Demand 3 follows from what the four calls answer and leave.
 use mathlib.Core.Path.{_≡_, refl, ap, subst, _∙_}
 use mathlib.Core.List.{List}
-use Prim.Native.Nat.{ℕ, _+_, _*_, _≤_}
-use native.Mathlib.Omega.{arith}
+use Prim.Native.Nat.{ℕ, _*_, _≤_}
 use lib.ListN.{length, take}
 use Rattle.terms.specs.Tree.{Tree, preorder}
-use Rattle.terms.specs.Sheet.{alphabetOf, automatonOf, nodesOf, sheetTree}
+use Rattle.terms.specs.Sheet.{alphabetOf, automatonOf, sheetTree}
 use Rattle.terms.specs.Check.{sheetRefusal}
-use Rattle.terms.specs.FormBytes.{ruleCount}
+use Rattle.terms.specs.FormBytes.{ruleCount, formLength}
 use Rattle.terms.specs.Count.{sizeOf}
-use Rattle.terms.specs.Calls.{makingRefusal, formMask, mostWalked}
+use Rattle.terms.specs.Answer.{Answer, refused, answered, answer, answerOfMask, answerOfLength}
+use Rattle.terms.specs.Calls.{rulesAsked, countsPerRule, formMask, mostWalked}
 use Rattle.terms.specs.Demand.{FormOfSheet, Demand3}
 use Rattle.terms.proofs.Demand.{making-passes, form-meets}
-use Rattle.making.specs.Making.{refusalOf, Leaves}
-use Rattle.making.specs.declared.Making.{Making}
-use Rattle.making.specs.declared.Making.the-variants as making
-use Rattle.making.proofs.Formed.{form-of}
-use Rattle.evaluation.specs.Evaluation.{evaluationAfter}
-use Rattle.unfolding.specs.declared.unfold.Unfolding.{Unfolding}
-use Rattle.unfolding.specs.declared.unfold.Unfolding.the-variants.{Written}
-use Rattle.plain_walk.specs.declared.answer.Walk.the-variants.{Mask}
+use Rattle.making.specs.Making.{Makes}
+use Rattle.making.proofs.Formed.{wrote, none-refused}
 use Rattle.certificate.specs.Certify.{Slices, Walked, Ran, Follows, CallsMade, Certificate}
 use Rattle.certificate.specs.declared.certify.Answers.{Answers}
 use Rattle.unfolding.proofs.Unfolded.{unfolds, tree-first}
 
-module _ (sheet : List ℕ) (answers : Answers) (form : List ℕ) (lent : Slices) (form′ : List ℕ) (left : Slices) (passes : sheetRefusal sheet ≡ 0) (room : 4 + 192 * nodesOf sheet ≤ length form) where
+module _ (sheet : List ℕ) (answers : Answers) (form : List ℕ) (lent : Slices) (form′ : List ℕ) (left : Slices) (passes : sheetRefusal sheet ≡ 0) (room : formLength (rulesAsked sheet) ≤ length form) where
   abbrev alphabet : List ℕ
   alphabet = alphabetOf sheet
 
@@ -34,23 +28,23 @@ module _ (sheet : List ℕ) (answers : Answers) (form : List ℕ) (lent : Slices
   abbrev tree : Tree
   tree = sheetTree sheet
 
-  module _ (n : ℕ) (made : answers .made ≡ making.Written n) (formed : FormOfSheet sheet (take n form′)) (ran : Ran alphabet automaton (take n form′) answers lent left) where
+  module _ (n : ℕ) (made : answerOfLength (answers .made) ≡ answered n) (formed : FormOfSheet sheet (take n form′)) (ran : Ran alphabet automaton (take n form′) answers lent left) where
     abbrev written : List ℕ
     written = take n form′
 
     demand : Demand3 sheet written
     demand = form-meets sheet passes written formed
 
-    module _ (counts : 2 * ruleCount written ≤ length (lent .counts)) (long : sizeOf tree ≤ length (lent .tree)) where
-      nodes-written : answers .unfolded ≡ Written (sizeOf tree)
+    module _ (counts : countsPerRule * ruleCount written ≤ length (lent .counts)) (long : sizeOf tree ≤ length (lent .tree)) where
+      nodes-written : answerOfLength (answers .unfolded) ≡ answered (sizeOf tree)
       nodes-written = unfolds (ran .unfolded) tree (formed .tree) (demand .unfolded _ _ counts long)
 
       tree-written : take (sizeOf tree) (left .tree) ≡ preorder tree
       tree-written = tree-first (ran .unfolded) tree (formed .tree) (demand .unfolded _ _ counts long)
 
-      same-mask : sizeOf tree ≤ mostWalked → sizeOf tree ≤ length (lent .masks) → answers .walked ≡ Mask (formMask alphabet automaton written)
+      same-mask : sizeOf tree ≤ mostWalked → sizeOf tree ≤ length (lent .masks) → answerOfMask (answers .walked) ≡ answered (formMask alphabet automaton written)
       same-mask small masks =
-          let w = subst (λ (u : Unfolding). Walked alphabet automaton u (left .tree) (answers .walked) (left .masks) (lent .masks)) nodes-written (ran .walked) in
+          let w = subst (λ (u : Answer ℕ). Walked alphabet automaton u (left .tree) (answerOfMask (answers .walked)) (left .masks) (lent .masks)) nodes-written (ran .walked) in
           rw (tree-written, demand .walked small _ masks, demand .same) at (w .0)
 
     certificate : Certificate sheet answers lent form′ left
@@ -59,16 +53,15 @@ module _ (sheet : List ℕ) (answers : Answers) (form : List ℕ) (lent : Slices
       mask = formMask alphabet automaton written;
       made = made;
       formed = formed;
-      evaluated = λ h. ran .evaluated ∙ ap (λ z. evaluationAfter z (formMask alphabet automaton written)) (demand .evaluated _ h);
+      evaluated = λ h. ran .evaluated ∙ ap (λ (z : ℕ). answer z (formMask alphabet automaton written)) (demand .evaluated _ h);
       runs = demand .mask;
       unfolded = λ h k. (nodes-written h k, tree-written h k);
       walked = same-mask;
     }
 
-  by-answer : (m : Making) → answers .made ≡ m → refusalOf m ≡ makingRefusal sheet (length form) → Leaves sheet m form′ form
-      → Follows sheet m form′ answers lent left → Certificate sheet answers lent form′ left
-  by-answer (making.Refused n) e r l f = absurd (omega (arith, r, l .0, making-passes sheet passes (length form) (omega arith)))
-  by-answer (making.Written n) e r l f = certificate n e (form-of sheet l) f
+  by-answer : (m : Answer ℕ) → answerOfLength (answers .made) ≡ m → Makes sheet m form′ form → Follows sheet m form′ answers lent left → Certificate sheet answers lent form′ left
+  by-answer (refused n) e k f = absurd (none-refused k refl (making-passes sheet passes (length form) room))
+  by-answer (answered n) e k f = certificate n e (wrote k refl .formed) f
 
   pub calls-certify : CallsMade sheet answers form lent form′ left → Certificate sheet answers lent form′ left
-  calls-certify c = by-answer (answers .made) refl (c .refused) (c .formed) (c .followed)
+  calls-certify c = by-answer (answerOfLength (answers .made)) refl (c .makes) (c .followed)

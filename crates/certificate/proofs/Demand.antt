@@ -2,7 +2,7 @@
 use mathlib.Core.Path.{_≡_}
 use mathlib.Core.List.{List}
 use Prim.Native.Nat.{ℕ}
-use Rattle.terms.specs.Sheet.{body, alphabetOf, rulesOf, nodesOf, sheetTree}
+use Rattle.terms.specs.Sheet.{body, alphabetOf, rulesOf, sheetTree}
 use Rattle.terms.specs.Check.{sheetRefusal}
 use Rattle.terms.specs.Demand.{Demand3}
 use Rattle.terms.proofs.Demand.{form-meets}
@@ -13,7 +13,7 @@ use Rattle.skeletons.proofs.Bytes.{made-bytes}
 
 -- every sheet that refusals 1 to 16 let through has a form of which demand 3 holds: the one that is made
 pub demand-three : (sheet : List ℕ) → sheetRefusal sheet ≡ 0 → Demand3 sheet (madeForm (alphabetOf sheet) (rulesOf sheet))
-unfolding sheetTree nodesOf rulesOf
+unfolding sheetTree rulesOf
 demand-three sheet passes =
     let p = sheet-passed sheet passes in
     let rules = rules-passed (alphabetOf sheet) (body sheet 1) (p .rules) in

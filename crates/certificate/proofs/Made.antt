@@ -2,42 +2,32 @@
 use mathlib.Core.Path.{_≡_, refl, sym, ap, subst, _∙_}
 use mathlib.Core.List.{List}
 use Prim.Native.Nat.{ℕ, _≤_}
-use native.Mathlib.Omega.{arith}
 use lib.ListN.{length, take}
 use lib.Seq.{length-take-le}
+use Rattle.terms.specs.Answer.{Answer, refused, answered, answerOfLength}
+use Rattle.terms.specs.declared.answers.MaskAnswer.the-variants as masks
+use Rattle.terms.specs.declared.answers.LengthAnswer.the-variants as lengths
 use Rattle.terms.specs.Sheet.{alphabetOf, automatonOf}
-use Rattle.terms.specs.Calls.{makingRefusal}
-use Rattle.making.specs.Making.{refusalOf, Leaves}
-use Rattle.making.specs.declared.Making.{Making}
-use Rattle.making.specs.declared.Making.the-variants.{Refused, Written}
-use Rattle.evaluation.specs.declared.evaluate.Evaluation.the-variants as evaluating
-use Rattle.unfolding.specs.declared.unfold.Unfolding.the-variants as nodes
-use Rattle.plain_walk.specs.declared.answer.Walk.the-variants as walk
+use Rattle.making.specs.Making.{Makes}
 use Rattle.certificate.specs.Certify.{Slices, Ran, Follows, CallsMade}
 use Rattle.certificate.specs.declared.certify.Answers.{Answers}
 
--- what was written lies in the slice
-pub written-within : {m : Making} {n : ℕ} (sheet form form′ : List ℕ) → m ≡ Written n → Leaves sheet m form′ form → length form′ ≡ length form → n ≤ length form′
-written-within sheet form form′ e l k = omega (arith, subst (λ (x : Making). Leaves sheet x form′ form) e l .within, k)
-
-module _ {m : Making} {n : ℕ} (sheet form form′ : List ℕ) (refused : refusalOf m ≡ makingRefusal sheet (length form)) (formed : Leaves sheet m form′ form) where
+module _ {m : Answer ℕ} {n : ℕ} {sheet form form′ : List ℕ} (makes : Makes sheet m form′ form) where
   -- a refusal is handed on
-  pub handed-on : m ≡ Refused n → (lent : Slices)
-      → CallsMade sheet (record { made = Refused n; evaluated = evaluating.Refused n; unfolded = nodes.Refused n; walked = walk.Refused n }) form lent form′ lent
+  pub handed-on : m ≡ refused n → (lent : Slices)
+      → CallsMade sheet (record { made = lengths.Refused n; evaluated = masks.Refused n; unfolded = lengths.Refused n; walked = masks.Refused n }) form lent form′ lent
   handed-on e lent = record {
-    refused = subst (λ (x : Making). refusalOf x ≡ makingRefusal sheet (length form)) e refused;
-    formed = subst (λ (x : Making). Leaves sheet x form′ form) e formed;
+    makes = subst (λ (x : Answer ℕ). Makes sheet x form′ form) e makes;
     followed = record { evaluated = refl; relations = refl; unfolded = refl; counts = refl; tree = refl; walked = refl; masks = refl };
   }
 
   -- the calls on the form that was written
-  pub calls-follow : m ≡ Written n → n ≤ length form′ → {alphabet automaton : List ℕ} {answers : Answers} {lent left : Slices} → alphabet ≡ alphabetOf sheet → automaton ≡ automatonOf sheet
+  pub calls-follow : m ≡ answered n → n ≤ length form′ → {alphabet automaton : List ℕ} {answers : Answers} {lent left : Slices} → alphabet ≡ alphabetOf sheet → automaton ≡ automatonOf sheet
       → Ran alphabet automaton (take n form′) answers lent left → CallsMade sheet answers form lent form′ left
   calls-follow e within {answers = answers} {lent = lent} {left = left} a b ran =
-      let made : m ≡ answers .made = e ∙ sym (ran .made ∙ ap Written (length-take-le n form′ within)) in
-      let follows : Follows sheet (Written n) form′ answers lent left = rw (a, b) at ran in
+      let made : m ≡ answerOfLength (answers .made) = e ∙ sym (ran .made ∙ ap answered (length-take-le n form′ within)) in
+      let follows : Follows sheet (answered n) form′ answers lent left = rw (a, b) at ran in
       record {
-        refused = subst (λ (x : Making). refusalOf x ≡ makingRefusal sheet (length form)) made refused;
-        formed = subst (λ (x : Making). Leaves sheet x form′ form) made formed;
-        followed = subst (λ (x : Making). Follows sheet x form′ answers lent left) (sym e ∙ made) follows;
+        makes = subst (λ (x : Answer ℕ). Makes sheet x form′ form) made makes;
+        followed = subst (λ (x : Answer ℕ). Follows sheet x form′ answers lent left) (sym e ∙ made) follows;
       }

@@ -1,5 +1,5 @@
 -- The parts of a sheet whose form was made: where its alphabet and its automaton lie.
-use mathlib.Core.Path.{_≡_, sym, subst}
+use mathlib.Core.Path.{_≡_, sym}
 use mathlib.Core.List.{List}
 use Prim.Native.Nat.{ℕ, _-_, _≤_}
 use lib.ListN.{length, take, drop}
@@ -9,9 +9,6 @@ use Rattle.terms.specs.Calls.{makingRefusal}
 use Rattle.terms.proofs.Refusal.{none-before}
 use Rattle.terms.proofs.Sheet.Bodies.{joined}
 use Rattle.terms.proofs.Sheet.Passed.{sheet-passed}
-use Rattle.making.specs.Making.{refusalOf}
-use Rattle.making.specs.declared.Making.{Making}
-use Rattle.making.specs.declared.Making.the-variants.{Written}
 
 -- what is known of a sheet of which a form was written
 pub record Parts (sheet : List ℕ) : Type 0 where
@@ -22,10 +19,10 @@ pub record Parts (sheet : List ℕ) : Type 0 where
   pub alphabet : take (bodyOffset sheet 1 - 12) (drop 12 sheet) ≡ alphabetOf sheet
   pub automaton : take (length sheet - bodyOffset sheet 2) (drop (bodyOffset sheet 2) sheet) ≡ automatonOf sheet
 
-pub parts-of : (sheet : List ℕ) (room : ℕ) {m : Making} {n : ℕ} → m ≡ Written n → refusalOf m ≡ makingRefusal sheet room → Parts sheet
+pub parts-of : (sheet : List ℕ) (room : ℕ) → makingRefusal sheet room ≡ 0 → Parts sheet
 unfolding makingRefusal
-parts-of sheet room e r =
-    let passed = sheet-passed sheet (none-before (sheetRefusal sheet) _ (sym (subst (λ (x : Making). refusalOf x ≡ makingRefusal sheet room) e r)) .0) in
+parts-of sheet room passes =
+    let passed = sheet-passed sheet (none-before (sheetRefusal sheet) _ passes .0) in
     let bodies = joined sheet (passed .joined) in
     record {
       long = passed .long;

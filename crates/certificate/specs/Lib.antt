@@ -1,2 +1,1 @@
 pub mod Certify
-pub mod Private

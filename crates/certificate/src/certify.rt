@@ -1,40 +1,39 @@
 // Form making, evaluation, unfolding and the plain walk in turn, over one sheet.
 use checks::bytes::word;
 use checks::limits::CONTENTS;
-use evaluation::evaluate::Evaluation;
 use evaluation::evaluate::evaluate;
-use making::Making;
 use making::make_form;
-use plain_walk::answer::Walk;
 use plain_walk::walk::walk;
-use unfolding::unfold::Unfolding;
+use terms::answers::LengthAnswer;
+use terms::answers::MaskAnswer;
 use unfolding::unfold::unfold;
 ghost use lib.ListN.{length};
+ghost use Rattle.terms.specs.Answer.{answerOfMask, answerOfLength};
+ghost use Rattle.terms.specs.Private.Within.{Within};
 ghost use Rattle.certificate.specs.Certify.{slices, Walked, Ran, CallsMade, Certified};
-ghost use Rattle.certificate.specs.Private.Within.{Within};
 
 // What the four calls answer.
 pub struct Answers {
-    pub made: Making,
-    pub evaluated: Evaluation,
-    pub unfolded: Unfolding,
-    pub walked: Walk,
+    pub made: LengthAnswer,
+    pub evaluated: MaskAnswer,
+    pub unfolded: LengthAnswer,
+    pub walked: MaskAnswer,
 }
 
 // The walk over the nodes that unfolding wrote. Where it wrote none there is nothing to walk over, and its refusal is handed on.
 fn walk_unfolded(
     alphabet: &[u8],
     automaton: &[u8],
-    unfolded: Unfolding,
+    unfolded: LengthAnswer,
     tree: &[u8],
     masks: &mut [u8],
-) -> Walk
-    requires { ⌜ Within unfolded (length (now tree)) ⌝ }
-    ensures { λ r. ⌜ Walked (now (alphabet .entry)) (now (automaton .entry)) unfolded (now (tree .entry)) r (now (masks .exit)) (now (masks .entry)) ⌝ }
+) -> MaskAnswer
+    requires { ⌜ Within (answerOfLength unfolded) (length (now tree)) ⌝ }
+    ensures { λ r. ⌜ Walked (now (alphabet .entry)) (now (automaton .entry)) (answerOfLength unfolded) (now (tree .entry)) (answerOfMask r) (now (masks .exit)) (now (masks .entry)) ⌝ }
 {
     match unfolded {
-        Unfolding::Refused(n) => Walk::Refused(n),
-        Unfolding::Written(n) => walk(alphabet, automaton, &tree[..n], masks),
+        LengthAnswer::Refused(n) => MaskAnswer::Refused(n),
+        LengthAnswer::Written(n) => walk(alphabet, automaton, &tree[..n], masks),
     }
 }
 
@@ -50,7 +49,7 @@ fn run(
 ) -> Answers
     ensures { λ r. ⌜ Ran (now (alphabet .entry)) (now (automaton .entry)) (now (form .entry)) r (slices (now (relations .entry)) (now (counts .entry)) (now (tree .entry)) (now (masks .entry))) (slices (now (relations .exit)) (now (counts .exit)) (now (tree .exit)) (now (masks .exit))) ⌝ }
 {
-    let made = Making::Written(form.len());
+    let made = LengthAnswer::Written(form.len());
     let evaluated = evaluate(alphabet, automaton, form, relations);
     let unfolded = unfold(alphabet, form, counts, tree);
     let walked = walk_unfolded(alphabet, automaton, unfolded, tree, masks);
@@ -75,13 +74,13 @@ pub fn certify(
     ensures demand { λ r. ⌜ Certified (now (sheet .entry)) r (now (form .entry)) (slices (now (relations .entry)) (now (counts .entry)) (now (tree .entry)) (now (masks .entry))) (now (form .exit)) (slices (now (relations .exit)) (now (counts .exit)) (now (tree .exit)) (now (masks .exit))) ⌝ }
 {
     match make_form(sheet, form) {
-        Making::Refused(n) => Answers {
-            made: Making::Refused(n),
-            evaluated: Evaluation::Refused(n),
-            unfolded: Unfolding::Refused(n),
-            walked: Walk::Refused(n),
+        LengthAnswer::Refused(n) => Answers {
+            made: LengthAnswer::Refused(n),
+            evaluated: MaskAnswer::Refused(n),
+            unfolded: LengthAnswer::Refused(n),
+            walked: MaskAnswer::Refused(n),
         },
-        Making::Written(n) => {
+        LengthAnswer::Written(n) => {
             let rules = word(sheet, 4);
             let automaton = word(sheet, 8);
             run(

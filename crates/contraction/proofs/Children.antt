@@ -1,9 +1,10 @@
 -- Instances of the children of a cell, the last one first, are steps of the model, and so is the terminal over them.
 use mathlib.Core.Path.{_≡_, refl, sym, subst, ap, _∙_}
 use mathlib.Core.List.{List, _∷_}
-use Prim.Native.Nat.{ℕ, zero, suc, _+_, _*_, _≤_, _<_}
+use Prim.Native.Nat.{ℕ, zero, suc, _+_, _*_, _%_, _≤_, _<_}
 use native.Mathlib.Omega.{arith}
 use native.Mathlib.Decide.{decLt}
+use native.Mathlib.Nat.{mod-eq-of-lt}
 use lib.ListN.{length, getD, drop, set, length-set}
 use lib.Seq.{drop-cons, drop-set-lt, getD-set-same, getD-set-other}
 use Rattle.terms.specs.Form.{Rule}
@@ -41,17 +42,17 @@ next space cell j s us h f =
     record { falls = p .0; stands = p .1; behind = record { row = p .2; count = omega (arith, f .count) } }
 
 -- no child is left
-pub none-left : {form space : List ℕ} {free : Free} {xs : List ℕ} {cell j : ℕ} {made : List ℕ} → field space cell 2 ≤ j → length made ≡ 4
-    → InstancedFrom form space free xs cell j form space free made
+pub none-left : {table space : List ℕ} {free : Free} {xs : List ℕ} {cell j : ℕ} {made : List ℕ} → field space cell 2 ≤ j → length made ≡ 4
+    → InstancedFrom table space free xs cell j table space free made
 unfolding substitutes
-none-left {form} {space} {free} {xs} {cell} {j} {made} h four = record { grown = λ us f. grown-none; four = four; each = λ k a b. absurd (omega arith); stood = stood }
+none-left {table} {space} {free} {xs} {cell} {j} {made} h four = record { grown = λ us f. grown-none; four = four; each = λ k a b. absurd (omega arith); stood = stood }
   where
-    stood : (rs : List Rule) (us ss : Skeletons) → Holds form rs → free .rule .0 ≡ length rs → From space cell j us → Row space (free .cell) xs ss
-        → AllBounded (size ss) us → StoodRow (substitutes ss us rs) form space free (drop j made)
+    stood : (rs : List Rule) (us ss : Skeletons) → Holds table rs → free .rule .0 ≡ length rs → From space cell j us → Row space (free .cell) xs ss
+        → AllBounded (size ss) us → StoodRow (substitutes ss us rs) table space free (drop j made)
     stood rs nil ss held e f row b = record { held = held; counted = e; row = tt }
     stood rs (cons s us) ss held e f row b = absurd (omega (arith, f .count))
 
-module _ {form space : List ℕ} {free : Free} {xs : List ℕ} {cell j : ℕ} (i : InstanceFrom form space free xs cell j) (more : j < field space cell 2) where
+module _ {table space : List ℕ} {free : Free} {xs : List ℕ} {cell j : ℕ} (i : InstanceFrom table space free xs cell j) (more : j < field space cell 2) where
   abbrev child : ℕ
   child = field space cell (3 + j)
 
@@ -64,12 +65,12 @@ module _ {form space : List ℕ} {free : Free} {xs : List ℕ} {cell j : ℕ} (i
     pub behind : From space cell (suc j) skeletons
     pub bounded : Bounded (size (i .arguments)) skeleton
     pub others : AllBounded (size (i .arguments)) skeletons
-    pub room : Room (weights skeletons + weight skeleton) (weights skeletons + weight skeleton) form space free
+    pub room : Room (weights skeletons + weight skeleton) (weights skeletons + weight skeleton) table space free
 
   pub this : Child
   this = go (i .skeletons) (i .children) (i .bounded) (i .room)
     where
-      go : (us : Skeletons) → From space cell j us → AllBounded (size (i .arguments)) us → Room (weights us) (weights us) form space free → Child
+      go : (us : Skeletons) → From space cell j us → AllBounded (size (i .arguments)) us → Room (weights us) (weights us) table space free → Child
       go nil f b r = absurd (omega (arith, f .count))
       go (cons s us) f b r =
           let n = next space cell j s us (omega (arith, i .four)) f in
@@ -84,7 +85,7 @@ module _ {form space : List ℕ} {free : Free} {xs : List ℕ} {cell j : ℕ} (i
             room = room-less (omega arith) (omega arith) r;
           }
 
-  pub behind-instance : (j′ : ℕ) → j′ ≡ suc j → InstanceFrom form space free xs cell j′
+  pub behind-instance : (j′ : ℕ) → j′ ≡ suc j → InstanceFrom table space free xs cell j′
   behind-instance j′ e =
       rw e
       record {
@@ -98,11 +99,11 @@ module _ {form space : List ℕ} {free : Free} {xs : List ℕ} {cell j : ℕ} (i
         room = room-less (omega arith) (omega arith) (this .room);
       }
 
-  module _ {form₁ space₁ : List ℕ} {free₁ : Free} {made₁ : List ℕ} {j′ : ℕ} (e : j′ ≡ suc j) (b′ : InstancedFrom form space free xs cell j′ form₁ space₁ free₁ made₁) where
-    b : InstancedFrom form space free xs cell (suc j) form₁ space₁ free₁ made₁
-    b = subst (λ (n : ℕ). InstancedFrom form space free xs cell n form₁ space₁ free₁ made₁) e b′
+  module _ {table₁ space₁ : List ℕ} {free₁ : Free} {made₁ : List ℕ} {j′ : ℕ} (e : j′ ≡ suc j) (b′ : InstancedFrom table space free xs cell j′ table₁ space₁ free₁ made₁) where
+    b : InstancedFrom table space free xs cell (suc j) table₁ space₁ free₁ made₁
+    b = subst (λ (n : ℕ). InstancedFrom table space free xs cell n table₁ space₁ free₁ made₁) e b′
 
-    grown₁ : Grown (weights (this .skeletons)) (weights (this .skeletons)) form space free form₁ space₁ free₁
+    grown₁ : Grown (weights (this .skeletons)) (weights (this .skeletons)) table space free table₁ space₁ free₁
     grown₁ = b .grown (this .skeletons) (this .behind)
 
     pub child-same : (k : ℕ) → k < 7 → field space₁ cell k ≡ field space cell k
@@ -114,7 +115,7 @@ module _ {form space : List ℕ} {free : Free} {xs : List ℕ} {cell j : ℕ} (i
     stands₁ : (s : Skeleton) → Stands space child s → Stands space₁ child s
     stands₁ s p = grown-stands grown₁ child s (omega (arith, this .falls, i .lower)) p
 
-    pub child-instance : (x : ℕ) → x ≡ child → Instance form₁ space₁ free₁ xs x
+    pub child-instance : (x : ℕ) → x ≡ child → Instance table₁ space₁ free₁ xs x
     child-instance x z = rw z record {
       skeleton = this .skeleton;
       arguments = i .arguments;
@@ -125,11 +126,11 @@ module _ {form space : List ℕ} {free : Free} {xs : List ℕ} {cell j : ℕ} (i
       room = room-left (this .room) grown₁;
     }
 
-    module _ {form₂ space₂ : List ℕ} {m : Made} {x : ℕ} (z : x ≡ child) (a′ : Instanced form₁ space₁ free₁ xs x form₂ space₂ m) where
-      a : Instanced form₁ space₁ free₁ xs child form₂ space₂ m
-      a = subst (λ (n : ℕ). Instanced form₁ space₁ free₁ xs n form₂ space₂ m) z a′
+    module _ {table₂ space₂ : List ℕ} {m : Made} {x : ℕ} (z : x ≡ child) (a′ : Instanced table₁ space₁ free₁ xs x table₂ space₂ m) where
+      a : Instanced table₁ space₁ free₁ xs child table₂ space₂ m
+      a = subst (λ (n : ℕ). Instanced table₁ space₁ free₁ xs n table₂ space₂ m) z a′
 
-      grown₂ : Grown (weight (this .skeleton)) (weight (this .skeleton)) form₁ space₁ free₁ form₂ space₂ (m .free)
+      grown₂ : Grown (weight (this .skeleton)) (weight (this .skeleton)) table₁ space₁ free₁ table₂ space₂ (m .free)
       grown₂ = a .grown (this .skeleton) (stands₁ (this .skeleton) (this .stands))
 
       abbrev made₂ : List ℕ
@@ -147,7 +148,7 @@ module _ {form space : List ℕ} {free : Free} {xs : List ℕ} {cell j : ℕ} (i
           rw (e, getD-set-same made₁ j (m .cell) 0 (omega (arith, b .four, i .four))) (a .lower)
 
       -- child j in front of those behind it
-      pub child-instanced : InstancedFrom form space free xs cell j form₂ space₂ (m .free) made₂
+      pub child-instanced : InstancedFrom table space free xs cell j table₂ space₂ (m .free) made₂
       unfolding substitutes
       child-instanced = record {
         grown = grown;
@@ -156,14 +157,14 @@ module _ {form space : List ℕ} {free : Free} {xs : List ℕ} {cell j : ℕ} (i
         stood = stood;
       }
         where
-          grown : (us : Skeletons) → From space cell j us → Grown (weights us) (weights us) form space free form₂ space₂ (m .free)
+          grown : (us : Skeletons) → From space cell j us → Grown (weights us) (weights us) table space free table₂ space₂ (m .free)
           grown nil f = absurd (omega (arith, f .count))
           grown (cons s us) f =
               let n = next space cell j s us (omega (arith, i .four)) f in
               grown-less (omega arith) (omega arith) (grown-then (b .grown us (n .behind)) (a .grown s (stands₁ s (n .stands))))
 
-          stood : (rs : List Rule) (us ss : Skeletons) → Holds form rs → free .rule .0 ≡ length rs → From space cell j us → Row space (free .cell) xs ss
-              → AllBounded (size ss) us → StoodRow (substitutes ss us rs) form₂ space₂ (m .free) (drop j made₂)
+          stood : (rs : List Rule) (us ss : Skeletons) → Holds table rs → free .rule .0 ≡ length rs → From space cell j us → Row space (free .cell) xs ss
+              → AllBounded (size ss) us → StoodRow (substitutes ss us rs) table₂ space₂ (m .free) (drop j made₂)
           stood rs nil ss held e f row bound = absurd (omega (arith, f .count))
           stood rs (cons s us) ss held e f row bound =
               let n = next space cell j s us (omega (arith, i .four)) f in
@@ -186,16 +187,16 @@ substitutes-size args (cons s us) rs = ap suc (substitutes-size args us rs)
 abbrev pub Branches : ℕ → Type 0
 Branches kind = (kind ≡ 0 → ⊥) × (kind ≡ 1 → ⊥) × (kind ≡ 2 → ⊥)
 
-module _ {form space : List ℕ} {free : Free} {xs : List ℕ} {cell : ℕ} (i : Instance form space free xs cell) (kind : Branches (field space cell 0)) where
+module _ {table space : List ℕ} {free : Free} {xs : List ℕ} {cell : ℕ} (i : Instance table space free xs cell) (kind : Branches (field space cell 0)) where
   pub record Over : Type 0 where
-    pub children : InstanceFrom form space free xs cell 0
+    pub children : InstanceFrom table space free xs cell 0
     pub small : field space cell 1 < 256
-    pub room : Room (weights (children .skeletons) + 2) (weights (children .skeletons) + 1) form space free
+    pub room : Room (weights (children .skeletons) + 2) (weights (children .skeletons) + 1) table space free
 
   pub over : Over
   over = go (i .skeleton) (i .stands) (i .bounded) (i .room)
     where
-      go : (s : Skeleton) → Stands space cell s → Bounded (size (i .arguments)) s → Room (weight s) (weight s) form space free → Over
+      go : (s : Skeleton) → Stands space cell s → Bounded (size (i .arguments)) s → Room (weight s) (weight s) table space free → Over
       go (param j) p b r = absurd (kind .0 (p .0))
       go (shut a) p b r = absurd (kind .1 (p .0))
       go (under c s) p b r = absurd (kind .2 (p .0))
@@ -214,26 +215,30 @@ module _ {form space : List ℕ} {free : Free} {xs : List ℕ} {cell : ℕ} (i :
         room = room-less (omega arith) (omega arith) r;
       }
 
-  module _ {form₁ space₁ : List ℕ} {free₁ : Free} {made : List ℕ} (b : InstancedFrom form space free xs cell 0 form₁ space₁ free₁ made) where
-    pub branch-room : Room 2 1 form₁ space₁ free₁
+  -- the cell's number is its terminal's
+  pub number-is : {n : ℕ} → field space cell 1 % 256 ≡ n → n ≡ field space cell 1
+  number-is e = sym e ∙ mod-eq-of-lt (over .small)
+
+  module _ {table₁ space₁ : List ℕ} {free₁ : Free} {made : List ℕ} (b : InstancedFrom table space free xs cell 0 table₁ space₁ free₁ made) where
+    pub branch-room : Room 2 1 table₁ space₁ free₁
     branch-room = room-left (over .room) (b .grown (over .children .skeletons) (over .children .children))
 
     pub branch-children : Children (field space cell 2) (free₁ .cell) made
     branch-children = record { few = over .children .four; there = omega (arith, b .four, over .children .four); each = λ k h. b .each k (omega arith) h }
 
-    pub branch-instanced : {form₂ space₂ : List ℕ} {r : Made} (number rank : ℕ) → number ≡ field space cell 1 → rank ≡ field space cell 2
-        → TerminalContracted form₁ space₁ free₁ number rank made form₂ space₂ r → Instanced form space free xs cell form₂ space₂ r
+    pub branch-instanced : {table₂ space₂ : List ℕ} {r : Made} (number rank : ℕ) → number ≡ field space cell 1 → rank ≡ field space cell 2
+        → TerminalContracted table₁ space₁ free₁ number rank made table₂ space₂ r → Instanced table space free xs cell table₂ space₂ r
     unfolding substitute
-    branch-instanced {form₂} {space₂} {r} number rank is count g = record { grown = grown; lower = g .lower; stood = stood }
+    branch-instanced {table₂} {space₂} {r} number rank is count g = record { grown = grown; lower = g .lower; stood = stood }
       where
-        grown : (s : Skeleton) → Stands space cell s → Grown (weight s) (weight s) form space free form₂ space₂ (r .free)
+        grown : (s : Skeleton) → Stands space cell s → Grown (weight s) (weight s) table space free table₂ space₂ (r .free)
         grown (param j) p = absurd (kind .0 (p .0))
         grown (shut a) p = absurd (kind .1 (p .0))
         grown (under c s) p = absurd (kind .2 (p .0))
         grown (branch f us) p = grown-less (omega arith) (omega arith) (grown-then (b .grown us (record { row = p .3; count = omega (arith, p .2) })) (g .grown))
 
-        stood : (rs : List Rule) (s : Skeleton) (ss : Skeletons) → Holds form rs → free .rule .0 ≡ length rs → Stands space cell s → Row space (free .cell) xs ss
-            → Bounded (size ss) s → Stood (substitute ss s rs) form₂ space₂ r
+        stood : (rs : List Rule) (s : Skeleton) (ss : Skeletons) → Holds table rs → free .rule .0 ≡ length rs → Stands space cell s → Row space (free .cell) xs ss
+            → Bounded (size ss) s → Stood (substitute ss s rs) table₂ space₂ r
         stood rs (param j) ss held e p row bound = absurd (kind .0 (p .0))
         stood rs (shut a) ss held e p row bound = absurd (kind .1 (p .0))
         stood rs (under c s) ss held e p row bound = absurd (kind .2 (p .0))

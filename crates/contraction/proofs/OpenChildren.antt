@@ -6,7 +6,6 @@ use Prim.Native.Nat.{ℕ, zero, suc, _+_, _-_, _≤_, _<_}
 use native.Mathlib.Omega.{arith}
 use native.Mathlib.Decide.{decLt}
 use borrow.Author.Tests.{lt-ltb, le-ltb, eq-eqb, ne-eqb}
-use lib.Dec.{eqb}
 use lib.ListN.{length, getD, drop, List·getD-eq-default, length-append}
 use lib.Seq.{drop-cons, getD-append-seam}
 use Rattle.skeletons.specs.Skeleton.{Skeleton, Skeletons, param, shut, under, branch, nil, cons}
@@ -16,7 +15,8 @@ use Rattle.terms.specs.Form.{whole, pierced}
 use Rattle.terms.specs.FormBytes.{unused}
 use Rattle.form_bytes.specs.declared.rule.FormRule.{FormRule}
 use Rattle.cells.specs.Bytes.{fieldsWith, fieldsFor}
-use Rattle.cells.specs.Cells.{field, Stands, Row}
+use Rattle.cells.specs.Cells.{Stands, Row, isClosed, closedAt}
+use Rattle.cells.proofs.Reading.{closed-rule-is}
 use Rattle.contraction.specs.Terminal.{withChild, Sorted, Within, Opens, slotAt, fieldsOver}
 use Rattle.contraction.specs.declared.contract_terminal.Open.{Open}
 use Rattle.contraction.specs.declared.contract_terminal.Open.the-variants.{Nowhere, At, Several}
@@ -46,7 +46,7 @@ ahead-sorted a from Several (single ls u rs) h = absurd h
 ahead-sorted a from Several several h = tt
 
 place-sorted : (cells : List ℕ) (x from : ℕ) (o : Open) (s : Skeleton) (t : Sort) → Stands cells x s → Sorted (suc from) o t
-    → Sorted from (withChild (eqb (field cells x 0) 1) from o) (place s t)
+    → Sorted from (withChild (isClosed cells x) from o) (place s t)
 place-sorted cells x from o (param i) t p h = rw (p .0) (front-sorted (param i) from o t h)
 place-sorted cells x from o (shut a) t p h = rw (p .0) (ahead-sorted a from o t h)
 place-sorted cells x from o (under c s) t p h = rw (p .0) (front-sorted (under c s) from o t h)
@@ -76,11 +76,11 @@ within-more rank place false (At p) h w = tt
 within-more rank place false Several h w = tt
 
 pub sorted-turn : (cells : List ℕ) (rank : ℕ) (xs : List ℕ) (j j₀ : ℕ) (o o′ : Open) → j₀ ≡ suc j → j₀ ≤ rank → rank ≤ length xs
-    → SortedFrom cells rank xs j₀ o → o′ ≡ withChild (eqb (field cells (getD xs j 0) 0) 1) j o → SortedFrom cells rank xs j o′
+    → SortedFrom cells rank xs j₀ o → o′ ≡ withChild (isClosed cells (getD xs j 0)) j o → SortedFrom cells rank xs j o′
 sorted-turn cells rank xs j j₀ o o′ e l m h w =
     rw w
     record {
-      within = within-more rank j (eqb (field cells (getD xs j 0) 0) 1) o (omega arith) (h .within);
+      within = within-more rank j (isClosed cells (getD xs j 0)) o (omega arith) (h .within);
       sorted = λ limit ss p n. go limit ss (rw (drop-cons xs j 0 (omega arith)) at p) n;
     }
   where
@@ -88,7 +88,7 @@ sorted-turn cells rank xs j j₀ o o′ e l m h w =
     later = subst (λ (n : ℕ). SortedFrom cells rank xs n o) e h
 
     go : (limit : ℕ) (ss : Skeletons) → Row cells limit (getD xs j 0 ∷ drop (suc j) xs) ss → size ss ≡ rank - j
-        → Sorted j (withChild (eqb (field cells (getD xs j 0) 0) 1) j o) (sort ss)
+        → Sorted j (withChild (isClosed cells (getD xs j 0)) j o) (sort ss)
     go limit nil p n = absurd (omega arith)
     go limit (cons s ss) p n = place-sorted cells (getD xs j 0) j o s (sort ss) (p .1) (later .sorted limit ss (p .2) (omega arith))
 
@@ -115,11 +115,11 @@ slots-over cells kind f hole n xs slots e = rw (e 0, e 1, e 2, e 3)
 
 pub record ClosedRow (cells xs : List ℕ) (n : ℕ) (slots : List ℕ) : Type 0 where
   pub count : length slots ≡ n
-  pub each : (j : ℕ) → j < n → field cells (getD xs j 0) 1 ≡ getD slots j unused
+  pub each : (j : ℕ) → j < n → closedAt cells (getD xs j 0) ≡ getD slots j unused
 
 pub record SingleRow (cells : List ℕ) (limit : ℕ) (xs : List ℕ) (n : ℕ) (ls : List ℕ) (s : Skeleton) (rs : List ℕ) : Type 0 where
   pub count : length ls + suc (length rs) ≡ n
-  pub each : (j : ℕ) → j < n → (j ≡ length ls → ⊥) → field cells (getD xs j 0) 1 ≡ getD (ls ++ (unused ∷ rs)) j unused
+  pub each : (j : ℕ) → j < n → (j ≡ length ls → ⊥) → closedAt cells (getD xs j 0) ≡ getD (ls ++ (unused ∷ rs)) j unused
   pub lower : getD xs (length ls) 0 < limit
   pub stands : Stands cells (getD xs (length ls) 0) s
 
@@ -132,28 +132,28 @@ module _ (cells : List ℕ) (limit x : ℕ) (xs : List ℕ) (n : ℕ) where
   front-described : (s : Skeleton) (t : Sort) → x < limit → Stands cells x s → Described cells limit xs n t → Described cells limit (x ∷ xs) (suc n) (front s t)
   front-described s (closed slots) h p d = record { count = omega (arith, d .count); each = each; lower = h; stands = p }
     where
-      each : (j : ℕ) → j < suc n → (j ≡ 0 → ⊥) → field cells (getD (x ∷ xs) j 0) 1 ≡ getD (unused ∷ slots) j unused
+      each : (j : ℕ) → j < suc n → (j ≡ 0 → ⊥) → closedAt cells (getD (x ∷ xs) j 0) ≡ getD (unused ∷ slots) j unused
       each zero l z = absurd (z refl)
       each (suc j) l z = d .each j (omega arith)
   front-described s (single ls u rs) h p d = tt
   front-described s several h p d = tt
 
-  ahead-described : (a : ℕ) (t : Sort) → field cells x 1 ≡ a → Described cells limit xs n t → Described cells limit (x ∷ xs) (suc n) (ahead a t)
+  ahead-described : (a : ℕ) (t : Sort) → closedAt cells x ≡ a → Described cells limit xs n t → Described cells limit (x ∷ xs) (suc n) (ahead a t)
   ahead-described a (closed slots) e d = record { count = ap suc (d .count); each = each }
     where
-      each : (j : ℕ) → j < suc n → field cells (getD (x ∷ xs) j 0) 1 ≡ getD (a ∷ slots) j unused
+      each : (j : ℕ) → j < suc n → closedAt cells (getD (x ∷ xs) j 0) ≡ getD (a ∷ slots) j unused
       each zero l = e
       each (suc j) l = d .each j (omega arith)
   ahead-described a (single ls u rs) e d = record { count = omega (arith, d .count); each = each; lower = d .lower; stands = d .stands }
     where
-      each : (j : ℕ) → j < suc n → (j ≡ suc (length ls) → ⊥) → field cells (getD (x ∷ xs) j 0) 1 ≡ getD (a ∷ (ls ++ (unused ∷ rs))) j unused
+      each : (j : ℕ) → j < suc n → (j ≡ suc (length ls) → ⊥) → closedAt cells (getD (x ∷ xs) j 0) ≡ getD (a ∷ (ls ++ (unused ∷ rs))) j unused
       each zero l z = e
       each (suc j) l z = d .each j (omega arith) (λ q. z (omega arith))
   ahead-described a several e d = tt
 
   place-described : (s : Skeleton) (t : Sort) → x < limit → Stands cells x s → Described cells limit xs n t → Described cells limit (x ∷ xs) (suc n) (place s t)
   place-described (param i) t h p d = front-described (param i) t h p d
-  place-described (shut a) t h p d = ahead-described a t (p .1) d
+  place-described (shut a) t h p d = ahead-described a t (closed-rule-is cells x p) d
   place-described (under c s) t h p d = front-described (under c s) t h p d
   place-described (branch f ss) t h p d = front-described (branch f ss) t h p d
 

@@ -18,7 +18,7 @@ use Rattle.cells.specs.declared.state.Made.{Made}
 use Rattle.cells.proofs.Standing.{row-at, row-long}
 use Rattle.cells.proofs.Adding.{grown-none, grown-then, grown-less, room-left, room-less}
 
-module _ {form space : List ℕ} {free : Free} {xs : List ℕ} {cell : ℕ} (i : Instance form space free xs cell) where
+module _ {table space : List ℕ} {free : Free} {xs : List ℕ} {cell : ℕ} (i : Instance table space free xs cell) where
   -- a parameter: what the argument's cell represents
   pub parameter-there : field space cell 0 ≡ 0 → field space cell 1 < size (i .arguments)
   parameter-there kind = go (i .skeleton) (i .stands) (i .bounded)
@@ -32,12 +32,12 @@ module _ {form space : List ℕ} {free : Free} {xs : List ℕ} {cell : ℕ} (i :
   pub argument-there : field space cell 0 ≡ 0 → field space cell 1 < length xs
   argument-there kind = omega (arith, parameter-there kind, row-long space (free .cell) xs (i .arguments) (i .row))
 
-  pub parameter-instanced : (n : ℕ) → n ≡ field space cell 1 → field space cell 0 ≡ 0 → Instanced form space free xs cell form space (record { free = free; cell = getD xs n 0 })
+  pub parameter-instanced : (n : ℕ) → n ≡ field space cell 1 → field space cell 0 ≡ 0 → Instanced table space free xs cell table space (record { free = free; cell = getD xs n 0 })
   unfolding substitute
   parameter-instanced n is kind = record { grown = λ s p. grown-none; lower = rw is (row-at space (free .cell) xs (i .arguments) (i .row) (field space cell 1) (parameter-there kind) .0); stood = stood }
     where
-      stood : (rs : List Rule) (s : Skeleton) (ss : Skeletons) → Holds form rs → free .rule .0 ≡ length rs → Stands space cell s → Row space (free .cell) xs ss
-          → Bounded (size ss) s → Stood (substitute ss s rs) form space (record { free = free; cell = getD xs n 0 })
+      stood : (rs : List Rule) (s : Skeleton) (ss : Skeletons) → Holds table rs → free .rule .0 ≡ length rs → Stands space cell s → Row space (free .cell) xs ss
+          → Bounded (size ss) s → Stood (substitute ss s rs) table space (record { free = free; cell = getD xs n 0 })
       stood rs (param j) ss held e p row b =
           let at : n ≡ j = is ∙ p .1 in
           let a = row-at space (free .cell) xs ss row j b in
@@ -47,12 +47,12 @@ module _ {form space : List ℕ} {free : Free} {xs : List ℕ} {cell : ℕ} (i :
       stood rs (branch f us) ss held e p row b = absurd (omega (arith, p .0))
 
   -- a rule of rank 0 stays
-  pub rule-instanced : field space cell 0 ≡ 1 → Instanced form space free xs cell form space (record { free = free; cell = cell })
+  pub rule-instanced : field space cell 0 ≡ 1 → Instanced table space free xs cell table space (record { free = free; cell = cell })
   unfolding substitute
   rule-instanced kind = record { grown = λ s p. grown-none; lower = i .lower; stood = stood }
     where
-      stood : (rs : List Rule) (s : Skeleton) (ss : Skeletons) → Holds form rs → free .rule .0 ≡ length rs → Stands space cell s → Row space (free .cell) xs ss
-          → Bounded (size ss) s → Stood (substitute ss s rs) form space (record { free = free; cell = cell })
+      stood : (rs : List Rule) (s : Skeleton) (ss : Skeletons) → Holds table rs → free .rule .0 ≡ length rs → Stands space cell s → Row space (free .cell) xs ss
+          → Bounded (size ss) s → Stood (substitute ss s rs) table space (record { free = free; cell = cell })
       stood rs (param j) ss held e p row b = absurd (omega (arith, p .0))
       stood rs (shut a) ss held e p row b = record { held = held; counted = e; lower = i .lower; stands = p }
       stood rs (under c s) ss held e p row b = absurd (omega (arith, p .0))
@@ -64,14 +64,14 @@ module _ {form space : List ℕ} {free : Free} {xs : List ℕ} {cell : ℕ} (i :
     child = field space cell 3
 
     pub record Over : Type 0 where
-      pub instance : Instance form space free xs child
+      pub instance : Instance table space free xs child
       pub falls : child < cell
-      pub room : Room (weight (instance .skeleton) + 1) (weight (instance .skeleton) + 1) form space free
+      pub room : Room (weight (instance .skeleton) + 1) (weight (instance .skeleton) + 1) table space free
 
     pub over : Over
     over = go (i .skeleton) (i .stands) (i .bounded) (i .room)
       where
-        go : (s : Skeleton) → Stands space cell s → Bounded (size (i .arguments)) s → Room (weight s) (weight s) form space free → Over
+        go : (s : Skeleton) → Stands space cell s → Bounded (size (i .arguments)) s → Room (weight s) (weight s) table space free → Over
         go (param j) p b r = absurd (omega (arith, p .0))
         go (shut a) p b r = absurd (omega (arith, p .0))
         go (under c s) p b r = record {
@@ -89,26 +89,26 @@ module _ {form space : List ℕ} {free : Free} {xs : List ℕ} {cell : ℕ} (i :
         }
         go (branch f ss) p b r = absurd (omega (arith, p .0))
 
-    module _ {form₁ space₁ : List ℕ} {m : Made} {x : ℕ} (z : x ≡ child) (inner′ : Instanced form space free xs x form₁ space₁ m) where
-      inner : Instanced form space free xs child form₁ space₁ m
-      inner = subst (λ (n : ℕ). Instanced form space free xs n form₁ space₁ m) z inner′
+    module _ {table₁ space₁ : List ℕ} {m : Made} {x : ℕ} (z : x ≡ child) (inner′ : Instanced table space free xs x table₁ space₁ m) where
+      inner : Instanced table space free xs child table₁ space₁ m
+      inner = subst (λ (n : ℕ). Instanced table space free xs n table₁ space₁ m) z inner′
 
-      pub over-room : Room 1 1 form₁ space₁ (m .free)
+      pub over-room : Room 1 1 table₁ space₁ (m .free)
       over-room = room-left (over .room) (inner .grown (over .instance .skeleton) (over .instance .stands))
 
-      pub under-instanced : {form₂ space₂ : List ℕ} {r : Made} (number : ℕ) → number ≡ field space cell 1
-          → ChainContracted form₁ space₁ (m .free) number (m .cell) form₂ space₂ r → Instanced form space free xs cell form₂ space₂ r
+      pub under-instanced : {table₂ space₂ : List ℕ} {r : Made} (number : ℕ) → number ≡ field space cell 1
+          → ChainContracted table₁ space₁ (m .free) number (m .cell) table₂ space₂ r → Instanced table space free xs cell table₂ space₂ r
       unfolding substitute
-      under-instanced {form₂} {space₂} {r} number is q = record { grown = grown; lower = q .lower; stood = stood }
+      under-instanced {table₂} {space₂} {r} number is q = record { grown = grown; lower = q .lower; stood = stood }
         where
-          grown : (s : Skeleton) → Stands space cell s → Grown (weight s) (weight s) form space free form₂ space₂ (r .free)
+          grown : (s : Skeleton) → Stands space cell s → Grown (weight s) (weight s) table space free table₂ space₂ (r .free)
           grown (param j) p = absurd (omega (arith, p .0))
           grown (shut a) p = absurd (omega (arith, p .0))
           grown (under c s) p = grown-less (omega arith) (omega arith) (grown-then (inner .grown s (p .3)) (q .grown))
           grown (branch f us) p = absurd (omega (arith, p .0))
 
-          stood : (rs : List Rule) (s : Skeleton) (ss : Skeletons) → Holds form rs → free .rule .0 ≡ length rs → Stands space cell s → Row space (free .cell) xs ss
-              → Bounded (size ss) s → Stood (substitute ss s rs) form₂ space₂ r
+          stood : (rs : List Rule) (s : Skeleton) (ss : Skeletons) → Holds table rs → free .rule .0 ≡ length rs → Stands space cell s → Row space (free .cell) xs ss
+              → Bounded (size ss) s → Stood (substitute ss s rs) table₂ space₂ r
           stood rs (param j) ss held e p row b = absurd (omega (arith, p .0))
           stood rs (shut a) ss held e p row b = absurd (omega (arith, p .0))
           stood rs (under c s) ss held e p row b =

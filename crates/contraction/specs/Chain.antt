@@ -13,7 +13,7 @@ use Rattle.cells.specs.declared.state.Free.{Free}
 use Rattle.cells.specs.declared.state.Made.{Made}
 
 -- a step of rank-1 rule c over a cell is that of the model
-pub record ChainContracted (form space : List ℕ) (free : Free) (c cell : ℕ) (form′ space′ : List ℕ) (r : Made) : Type 0 where
-  pub grown : Grown 1 1 form space free form′ space′ (r .free)
+pub record ChainContracted (table space : List ℕ) (free : Free) (c cell : ℕ) (table′ space′ : List ℕ) (r : Made) : Type 0 where
+  pub grown : Grown 1 1 table space free table′ space′ (r .free)
   pub lower : r .cell < r .free .cell
-  pub stood : (rs : List Rule) (s : Skeleton) → Holds form rs → free .rule .0 ≡ length rs → Stands space cell s → Stood (contract-chain rs c s) form′ space′ r
+  pub stood : (rs : List Rule) (s : Skeleton) → Holds table rs → free .rule .0 ≡ length rs → Stands space cell s → Stood (contract-chain rs c s) table′ space′ r

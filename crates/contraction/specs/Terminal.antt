@@ -12,8 +12,8 @@ use Rattle.skeletons.specs.Make.{Sort, closed, single, several, sort, contract-
 use Rattle.skeletons.specs.Skeleton.{size}
 use Rattle.form_bytes.specs.declared.rule.FormRule.{FormRule}
 use Rattle.cells.specs.Bytes.{Holds}
-use Rattle.cells.specs.Cells.{field, Row, branchFields}
-use Rattle.cells.specs.State.{CellAdded, Grown, Stood}
+use Rattle.cells.specs.Cells.{closedAt, Row}
+use Rattle.cells.specs.State.{Grown, Stood}
 use Rattle.contraction.specs.declared.contract_terminal.Open.{Open}
 use Rattle.contraction.specs.declared.contract_terminal.Open.the-variants.{Nowhere, At, Several}
 use Rattle.cells.specs.declared.state.Free.{Free}
@@ -57,7 +57,7 @@ pub record Opens (cells : List ℕ) (rank : ℕ) (xs : List ℕ) (r : Open) : Ty
 
 -- slot j of a terminal's rule over cells
 abbrev pub slotAt : List ℕ → ℕ → List ℕ → ℕ → ℕ → ℕ
-slotAt cells rank xs hole j = cond (ltb j rank && not (eqb (suc j) hole)) (field cells (getD xs j 0) 1) unused
+slotAt cells rank xs hole j = cond (ltb j rank && not (eqb (suc j) hole)) (closedAt cells (getD xs j 0)) unused
 
 -- the fields of a terminal's rule over cells
 abbrev pub fieldsOver : List ℕ → ℕ → ℕ → ℕ → ℕ → List ℕ → FormRule
@@ -72,19 +72,15 @@ fieldsOver cells kind f hole rank xs = record {
 }
 
 -- a step of a terminal over cells is that of the model, where so many of the cells are open
-pub record ContractedWhere (o : Open) (form space : List ℕ) (free : Free) (f rank : ℕ) (xs form′ space′ : List ℕ) (r : Made) : Type 0 where
-  pub grown : Grown 2 1 form space free form′ space′ (r .free)
+pub record ContractedWhere (o : Open) (table space : List ℕ) (free : Free) (f rank : ℕ) (xs table′ space′ : List ℕ) (r : Made) : Type 0 where
+  pub grown : Grown 2 1 table space free table′ space′ (r .free)
   pub lower : r .cell < r .free .cell
-  pub stood : (rs : List Rule) (ss : Skeletons) → Holds form rs → free .rule .0 ≡ length rs → Row space (free .cell) xs ss → size ss ≡ rank → Sorted 0 o (sort ss)
-      → Stood (contract-terminal rs f ss) form′ space′ r
+  pub stood : (rs : List Rule) (ss : Skeletons) → Holds table rs → free .rule .0 ≡ length rs → Row space (free .cell) xs ss → size ss ≡ rank → Sorted 0 o (sort ss)
+      → Stood (contract-terminal rs f ss) table′ space′ r
 
 -- a step of a terminal over cells is that of the model
-pub record TerminalContracted (form space : List ℕ) (free : Free) (f rank : ℕ) (xs form′ space′ : List ℕ) (r : Made) : Type 0 where
-  pub grown : Grown 2 1 form space free form′ space′ (r .free)
+pub record TerminalContracted (table space : List ℕ) (free : Free) (f rank : ℕ) (xs table′ space′ : List ℕ) (r : Made) : Type 0 where
+  pub grown : Grown 2 1 table space free table′ space′ (r .free)
   pub lower : r .cell < r .free .cell
-  pub stood : (rs : List Rule) (ss : Skeletons) → Holds form rs → free .rule .0 ≡ length rs → Row space (free .cell) xs ss → size ss ≡ rank
-      → Stood (contract-terminal rs f ss) form′ space′ r
-
--- the cell of a terminal over cells is added
-abbrev pub BranchAdded : List ℕ → Free → ℕ → ℕ → List ℕ → List ℕ → Made → Type 0
-BranchAdded space free f rank xs space′ r = CellAdded (branchFields f rank (getD xs 0 0) (getD xs 1 0) (getD xs 2 0) (getD xs 3 0)) free space r space′
+  pub stood : (rs : List Rule) (ss : Skeletons) → Holds table rs → free .rule .0 ≡ length rs → Row space (free .cell) xs ss → size ss ≡ rank
+      → Stood (contract-terminal rs f ss) table′ space′ r

@@ -1,14 +1,11 @@
 // A rule of rank 1 over what a cell represents: Contract-1 of source document 000, section 6, where that is a rule too.
-use cells::cells::CHILDREN;
-use cells::cells::KIND;
-use cells::cells::NUMBER;
-use cells::cells::SHUT;
+use cells::cells::Cell;
 use cells::cells::SPACE;
-use cells::cells::UNDER;
-use cells::cells::field;
+use cells::cells::add_closed;
+use cells::cells::add_over;
+use cells::cells::read_cell;
 use cells::state::Free;
 use cells::state::Made;
-use cells::state::add_cell;
 use cells::state::add_rule;
 use form_bytes::rule::FormRule;
 use terms::Rule;
@@ -37,28 +34,26 @@ fn chain(kind: u8, b: Rule, c: Rule) -> FormRule
 
 // Over a rule of rank 0 it makes a rule of rank 0, over a rule of rank 1 one of rank 1; over anything else it stays as it is.
 pub fn contract_chain(
-    form: &mut [u8],
+    table: &mut [u8],
     cells: &mut [u16; SPACE],
     free: Free,
     context: Rule,
     cell: u16,
 ) -> Made
-    requires { ⌜ Room 1 1 (now form) (now cells) free × (cell < free .cell) ⌝ }
-    ensures { λ r. ⌜ ChainContracted (now (form .entry)) (now (cells .entry)) free (context .0) cell (now (form .exit)) (now (cells .exit)) r ⌝ }
+    requires { ⌜ Room 1 1 (now table) (now cells) free × (cell < free .cell) ⌝ }
+    ensures { λ r. ⌜ ChainContracted (now (table .entry)) (now (cells .entry)) free (context .0) cell (now (table .exit)) (now (cells .exit)) r ⌝ }
 {
-    let kind = field(cells, cell, KIND);
-    let number = field(cells, cell, NUMBER);
-    if kind == SHUT {
-        let next = add_rule(form, free, chain(2, context, Rule(number)));
-        let fields = [SHUT, free.rule.0, 0, 0, 0, 0, 0];
-        return add_cell(cells, next, &fields);
+    match read_cell(cells, cell) {
+        Cell::Closed(rule) => {
+            let number = free.rule;
+            let next = add_rule(table, free, chain(2, context, rule));
+            add_closed(cells, next, number)
+        }
+        Cell::Over(rule, child) => {
+            let number = free.rule;
+            let next = add_rule(table, free, chain(3, context, rule));
+            add_over(cells, next, number, child)
+        }
+        Cell::Parameter(_) | Cell::Terminal(_, _) => add_over(cells, free, context, cell),
     }
-    if kind == UNDER {
-        let child = field(cells, cell, CHILDREN);
-        let next = add_rule(form, free, chain(3, context, Rule(number)));
-        let fields = [UNDER, free.rule.0, 1, child, 0, 0, 0];
-        return add_cell(cells, next, &fields);
-    }
-    let fields = [UNDER, context.0, 1, cell, 0, 0, 0];
-    add_cell(cells, free, &fields)
 }

@@ -1,23 +1,21 @@
 // A terminal over what cells represent: Contract-2 of source document 000, section 6, where at most one of them is open.
 use crate::contract_chain::contract_chain;
-use cells::cells::BRANCH;
-use cells::cells::KIND;
-use cells::cells::NUMBER;
-use cells::cells::SHUT;
 use cells::cells::SPACE;
-use cells::cells::field;
+use cells::cells::add_closed;
+use cells::cells::add_terminal;
+use cells::cells::closed_rule;
+use cells::cells::is_closed;
 use cells::state::Free;
 use cells::state::Made;
-use cells::state::add_cell;
 use cells::state::add_rule;
 use form_bytes::rule::FormRule;
 use terms::Rule;
 use terms::Terminal;
 ghost use mathlib.Core.Path.{_≡_};
 ghost use Prim.Native.Nat.{_+_, _<_};
-ghost use lib.ListN.{length, getD};
+ghost use lib.ListN.{length};
 ghost use Rattle.cells.specs.Cells.{mostCells, spaceLength};
-ghost use Rattle.contraction.specs.Terminal.{withChild, slotAt, fieldsOver, Children, Opens, ContractedWhere, TerminalContracted, BranchAdded};
+ghost use Rattle.contraction.specs.Terminal.{withChild, slotAt, fieldsOver, Children, Opens, ContractedWhere, TerminalContracted};
 ghost use Rattle.cells.specs.State.{Room};
 
 // Which of a terminal's children are open.
@@ -50,8 +48,8 @@ fn open_among(cells: &[u16; SPACE], rank: u8, children: &[u16]) -> Open
     let mut j = rank;
     while 0 < j {
         j -= 1;
-        let kind = field(cells, children[j as usize], KIND);
-        open = with_child(kind == SHUT, j, open);
+        let closed = is_closed(cells, children[j as usize]);
+        open = with_child(closed, j, open);
     }
     open
 }
@@ -67,7 +65,7 @@ fn slot(cells: &[u16; SPACE], rank: u8, children: &[u16], hole: u8, j: u8) -> Ru
     if j + 1 == hole {
         return Rule(0xFFFF);
     }
-    Rule(field(cells, children[j as usize], NUMBER))
+    closed_rule(cells, children[j as usize])
 }
 
 // The rule of a terminal over closed children, but for the hole.
@@ -93,37 +91,27 @@ fn rule_over(
     }
 }
 
-// Child j, or 0 where there is none.
-fn child(children: &[u16], j: usize) -> u16
-    ensures { λ r. ⌜ r ≡ getD (now (children .entry)) j 0 ⌝ }
-{
-    if j < children.len() {
-        return children[j];
-    }
-    0
-}
-
 // A terminal over closed children: a rule of rank 0.
 fn close(
-    form: &mut [u8],
+    table: &mut [u8],
     cells: &mut [u16; SPACE],
     free: Free,
     terminal: Terminal,
     rank: u8,
     children: &[u16],
 ) -> Made
-    requires { ⌜ Room 2 1 (now form) (now cells) free × Children rank (free .cell) (now children) ⌝ }
-    ensures { λ r. ⌜ ContractedWhere Open.Nowhere (now (form .entry)) (now (cells .entry)) free (terminal .0) rank (now (children .entry)) (now (form .exit)) (now (cells .exit)) r ⌝ }
+    requires { ⌜ Room 2 1 (now table) (now cells) free × Children rank (free .cell) (now children) ⌝ }
+    ensures { λ r. ⌜ ContractedWhere Open.Nowhere (now (table .entry)) (now (cells .entry)) free (terminal .0) rank (now (children .entry)) (now (table .exit)) (now (cells .exit)) r ⌝ }
 {
     let rule = rule_over(cells, 0, terminal, 0, rank, children);
-    let next = add_rule(form, free, rule);
-    let fields = [SHUT, free.rule.0, 0, 0, 0, 0, 0];
-    add_cell(cells, next, &fields)
+    let number = free.rule;
+    let next = add_rule(table, free, rule);
+    add_closed(cells, next, number)
 }
 
 // A terminal over children of which one is open: a rule of rank 1 over that one.
 fn pierce(
-    form: &mut [u8],
+    table: &mut [u8],
     cells: &mut [u16; SPACE],
     free: Free,
     terminal: Terminal,
@@ -131,54 +119,31 @@ fn pierce(
     children: &[u16],
     place: u8,
 ) -> Made
-    requires { ⌜ Room 2 1 (now form) (now cells) free × Children rank (free .cell) (now children) × (place < rank) ⌝ }
-    ensures { λ r. ⌜ ContractedWhere (Open.At place) (now (form .entry)) (now (cells .entry)) free (terminal .0) rank (now (children .entry)) (now (form .exit)) (now (cells .exit)) r ⌝ }
+    requires { ⌜ Room 2 1 (now table) (now cells) free × Children rank (free .cell) (now children) × (place < rank) ⌝ }
+    ensures { λ r. ⌜ ContractedWhere (Open.At place) (now (table .entry)) (now (cells .entry)) free (terminal .0) rank (now (children .entry)) (now (table .exit)) (now (cells .exit)) r ⌝ }
 {
     let open = children[place as usize];
     let rule = rule_over(cells, 1, terminal, place + 1, rank, children);
-    let next = add_rule(form, free, rule);
+    let next = add_rule(table, free, rule);
     let context = free.rule;
-    contract_chain(form, cells, next, context, open)
-}
-
-// A terminal over children of which several are open stays one.
-fn branch(
-    cells: &mut [u16; SPACE],
-    free: Free,
-    terminal: Terminal,
-    rank: u8,
-    children: &[u16],
-) -> Made
-    requires { ⌜ (length (now cells) ≡ spaceLength) × (free .cell < mostCells) ⌝ }
-    ensures { λ r. ⌜ BranchAdded (now (cells .entry)) free (terminal .0) rank (now (children .entry)) (now (cells .exit)) r ⌝ }
-{
-    let fields = [
-        BRANCH,
-        terminal.0 as u16,
-        rank as u16,
-        child(children, 0),
-        child(children, 1),
-        child(children, 2),
-        child(children, 3),
-    ];
-    add_cell(cells, free, &fields)
+    contract_chain(table, cells, next, context, open)
 }
 
 // A terminal over cells.
 pub fn contract_terminal(
-    form: &mut [u8],
+    table: &mut [u8],
     cells: &mut [u16; SPACE],
     free: Free,
     terminal: Terminal,
     rank: u8,
     children: &[u16],
 ) -> Made
-    requires { ⌜ Room 2 1 (now form) (now cells) free × Children rank (free .cell) (now children) ⌝ }
-    ensures { λ r. ⌜ TerminalContracted (now (form .entry)) (now (cells .entry)) free (terminal .0) rank (now (children .entry)) (now (form .exit)) (now (cells .exit)) r ⌝ }
+    requires { ⌜ Room 2 1 (now table) (now cells) free × Children rank (free .cell) (now children) ⌝ }
+    ensures { λ r. ⌜ TerminalContracted (now (table .entry)) (now (cells .entry)) free (terminal .0) rank (now (children .entry)) (now (table .exit)) (now (cells .exit)) r ⌝ }
 {
     match open_among(cells, rank, children) {
-        Open::Nowhere => close(form, cells, free, terminal, rank, children),
-        Open::At(place) => pierce(form, cells, free, terminal, rank, children, place),
-        Open::Several => branch(cells, free, terminal, rank, children),
+        Open::Nowhere => close(table, cells, free, terminal, rank, children),
+        Open::At(place) => pierce(table, cells, free, terminal, rank, children, place),
+        Open::Several => add_terminal(cells, free, terminal, rank, children),
     }
 }

@@ -1,66 +1,51 @@
 // The substitution of cells for the parameters of what a cell represents (source document 000, section 6, equation (3)).
 use crate::contract_chain::contract_chain;
 use crate::contract_terminal::contract_terminal;
-use cells::cells::CHILDREN;
-use cells::cells::COUNT;
-use cells::cells::KIND;
-use cells::cells::NUMBER;
-use cells::cells::PARAM;
-use cells::cells::SHUT;
+use cells::cells::Cell;
 use cells::cells::SPACE;
-use cells::cells::UNDER;
-use cells::cells::field;
+use cells::cells::child_at;
+use cells::cells::child_count;
+use cells::cells::read_cell;
 use cells::state::Free;
 use cells::state::Made;
 use checks::limits::HIGHEST_RANK;
-use terms::Rule;
-use terms::Terminal;
 ghost use mathlib.Core.Path.{_≡_};
 ghost use lib.ListN.{length};
 ghost use Rattle.contraction.specs.Substitution.{Instance, Instanced, InstanceFrom, InstancedFrom};
 
 // The cell with its parameters replaced by the arguments' cells.
 pub fn substitute(
-    form: &mut [u8],
+    table: &mut [u8],
     cells: &mut [u16; SPACE],
     free: Free,
     args: &[u16],
     cell: u16,
 ) -> Made
-    requires { ⌜ Instance (now form) (now cells) free (now args) cell ⌝ }
-    ensures { λ r. ⌜ Instanced (now (form .entry)) (now (cells .entry)) free (now (args .entry)) cell (now (form .exit)) (now (cells .exit)) r ⌝ }
+    requires { ⌜ Instance (now table) (now cells) free (now args) cell ⌝ }
+    ensures { λ r. ⌜ Instanced (now (table .entry)) (now (cells .entry)) free (now (args .entry)) cell (now (table .exit)) (now (cells .exit)) r ⌝ }
 {
-    let kind = field(cells, cell, KIND);
-    let number = field(cells, cell, NUMBER);
-    if kind == PARAM {
-        let made = args[number as usize];
-        return Made { free, cell: made };
+    match read_cell(cells, cell) {
+        Cell::Parameter(j) => {
+            let made = args[j as usize];
+            Made { free, cell: made }
+        }
+        Cell::Closed(_) => Made { free, cell },
+        Cell::Over(rule, child) => {
+            let inner = substitute(table, cells, free, args, child);
+            let next = inner.free;
+            contract_chain(table, cells, next, rule, inner.cell)
+        }
+        Cell::Terminal(terminal, rank) => {
+            let mut children = [0u16; HIGHEST_RANK as usize];
+            let next = substitute_from(table, cells, free, args, cell, 0, &mut children);
+            contract_terminal(table, cells, next, terminal, rank as u8, &children)
+        }
     }
-    if kind == SHUT {
-        return Made { free, cell };
-    }
-    if kind == UNDER {
-        let child = field(cells, cell, CHILDREN);
-        let inner = substitute(form, cells, free, args, child);
-        let next = inner.free;
-        return contract_chain(form, cells, next, Rule(number), inner.cell);
-    }
-    let rank = field(cells, cell, COUNT);
-    let mut children = [0u16; HIGHEST_RANK as usize];
-    let next = substitute_from(form, cells, free, args, cell, 0, &mut children);
-    contract_terminal(
-        form,
-        cells,
-        next,
-        Terminal(number as u8),
-        rank as u8,
-        &children,
-    )
 }
 
 // The children of a cell from child `j` on, the last one first.
 fn substitute_from(
-    form: &mut [u8],
+    table: &mut [u8],
     cells: &mut [u16; SPACE],
     free: Free,
     args: &[u16],
@@ -68,15 +53,15 @@ fn substitute_from(
     j: u16,
     children: &mut [u16; HIGHEST_RANK as usize],
 ) -> Free
-    requires { ⌜ InstanceFrom (now form) (now cells) free (now args) cell j × (length (now children) ≡ 4) ⌝ }
-    ensures { λ r. ⌜ InstancedFrom (now (form .entry)) (now (cells .entry)) free (now (args .entry)) cell j (now (form .exit)) (now (cells .exit)) r (now (children .exit)) ⌝ }
+    requires { ⌜ InstanceFrom (now table) (now cells) free (now args) cell j × (length (now children) ≡ 4) ⌝ }
+    ensures { λ r. ⌜ InstancedFrom (now (table .entry)) (now (cells .entry)) free (now (args .entry)) cell j (now (table .exit)) (now (cells .exit)) r (now (children .exit)) ⌝ }
 {
-    if field(cells, cell, COUNT) <= j {
+    if child_count(cells, cell) <= j {
         return free;
     }
-    let behind = substitute_from(form, cells, free, args, cell, j + 1, children);
-    let child = field(cells, cell, CHILDREN + j as usize);
-    let made = substitute(form, cells, behind, args, child);
+    let behind = substitute_from(table, cells, free, args, cell, j + 1, children);
+    let child = child_at(cells, cell, j);
+    let made = substitute(table, cells, behind, args, child);
     children[j as usize] = made.cell;
     made.free
 }

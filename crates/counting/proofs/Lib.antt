@@ -6,4 +6,3 @@ pub mod Readable
 pub mod Counted
 pub mod Front
 pub mod Start
-pub mod Answers

@@ -1,4 +1,2 @@
-// The counts of the nodes that the rules of a form derive, and the size of its tree.
-pub mod answer;
+// The counts of the nodes that the rules of a form derive.
 pub mod counts;
-pub mod size;

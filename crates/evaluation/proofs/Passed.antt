@@ -4,10 +4,13 @@ use mathlib.Core.List.{List}
 use Prim.Native.Nat.{ℕ, _≤_}
 use lib.Dec.{ltb}
 use borrow.Author.Tests.{ltb-false}
+use Rattle.terms.specs.Automaton.{Small}
+use Rattle.terms.specs.Sheet.{transitionsOf}
 use Rattle.terms.specs.Check.{alphabetRefusal, automatonRefusal}
 use Rattle.terms.specs.FormBytes.{ruleCount, formRefusal}
 use Rattle.terms.specs.Calls.{evaluationRefusal}
 use Rattle.terms.proofs.Refusal.{none-before, no-row}
+use Rattle.terms.proofs.Sheet.Automaton.{automaton-passed, automaton-small}
 use Rattle.terms.proofs.Sheet.Passed.{alphabet-passed}
 use Rattle.terms.proofs.Form.Bytes.{FormPassed, form-passed}
 
@@ -15,6 +18,7 @@ pub record EvaluationPassed (alphabet automaton form : List ℕ) (numbers : ℕ)
   pub alphabetPasses : alphabetRefusal alphabet ≡ 0
   pub automatonPasses : automatonRefusal alphabet automaton ≡ 0
   pub formPasses : formRefusal alphabet form ≡ 0
+  pub small : Small (transitionsOf alphabet automaton)
   pub valid : FormPassed alphabet form
   pub room : ruleCount form ≤ numbers
 
@@ -29,6 +33,7 @@ evaluation-passed alphabet automaton form numbers e =
       alphabetPasses = a;
       automatonPasses = b;
       formPasses = c;
+      small = automaton-small alphabet automaton (automaton-passed alphabet automaton b);
       valid = form-passed alphabet form (alphabet-passed alphabet a) c;
       room = ltb-false numbers (ruleCount form) (no-row 18 (ltb numbers (ruleCount form)) 0 t .0);
     }

@@ -1,33 +1,17 @@
 // Evaluating a form: the relation of each rule from those of lower rules, and the mask of the start, without unfolding the tree.
+use automata::check::check_automaton;
 use checks::alphabet::check_alphabet;
-use checks::automaton::check_automaton;
+use entries::entry::states_of;
+use entries::entry::write_relations;
 use form_bytes::layout;
-use form_bytes::rule::FormRule;
-use form_bytes::rule::rule_at;
 use forms::check::check_form;
-use relations::apply;
-use relations::compose;
-use relations::table::spread_table;
-use terms::Rule;
-use transitions::links::link_transitions;
-use transitions::step::step_closed;
-use transitions::step::step_open;
+use terms::answers::MaskAnswer;
 ghost use mathlib.Core.Path.{_≡_};
-ghost use mathlib.Core.List.{[], _∷_};
-ghost use Prim.Native.Nat.{_%_, _<_};
+ghost use Prim.Native.Nat.{_<_};
 ghost use lib.ListN.{length};
-ghost use Rattle.terms.specs.Relation.{statesAt, relationOf};
-ghost use Rattle.terms.specs.Sheet.{transitionsOf};
-ghost use Rattle.terms.specs.FormBytes.{ruleCount, formRule};
+ghost use Rattle.terms.specs.Answer.{answer, answerOfMask};
 ghost use Rattle.terms.specs.Calls.{lentAfter, evaluationRefusal, relationsOf, formMask};
-ghost use Rattle.evaluation.specs.Private.Evaluable.{Evaluable, entryIn};
-ghost use Rattle.evaluation.specs.Evaluation.{evaluation};
-
-// What evaluating a form answers: the refusal, or the mask of the states at the root of the form's tree.
-pub enum Evaluation {
-    Refused(u8),
-    Mask(u8),
-}
+ghost use Rattle.evaluation.specs.Evaluation.{RightByRuns};
 
 // What is refused of alphabet, automaton, form and the length of the slice; 0 where nothing is.
 fn evaluation_refusal(alphabet: &[u8], automaton: &[u8], form: &[u8], numbers: usize) -> u8
@@ -51,110 +35,29 @@ fn evaluation_refusal(alphabet: &[u8], automaton: &[u8], form: &[u8], numbers: u
     0
 }
 
-// The entry of a rule, 0 where there is none: the slots that are not used name no rule.
-fn entry_of(relations: &[u64], rule: Rule) -> u64
-    ensures { λ r. ⌜ r ≡ entryIn (now (relations .entry)) (rule .0) ⌝ }
-{
-    let place = rule.0 as usize;
-    if place < relations.len() {
-        return relations[place];
-    }
-    0
-}
-
-// The states of a rule of rank 0: the low byte of its entry.
-fn states_of(relations: &[u64], rule: Rule) -> u8
-    ensures { λ r. ⌜ r ≡ entryIn (now (relations .entry)) (rule .0) % 256 ⌝ }
-{
-    (entry_of(relations, rule) % 256) as u8
-}
-
-// The states of a rule's slots.
-fn slot_states(relations: &[u64], rule: FormRule) -> [u8; 4]
-    ensures { λ r. ⌜ r ≡ statesAt (entryIn (now (relations .entry))) (rule .slot0 .0 ∷ rule .slot1 .0 ∷ rule .slot2 .0 ∷ rule .slot3 .0 ∷ []) ⌝ }
-{
-    [
-        states_of(relations, rule.slot0),
-        states_of(relations, rule.slot1),
-        states_of(relations, rule.slot2),
-        states_of(relations, rule.slot3),
-    ]
-}
-
-// The entry of a rule from the entries below it: of a node with the states of its slots, or of a chain of two.
-fn relation_of(
-    alphabet: &[u8],
-    automaton: &[u8],
-    form: &[u8],
-    table: &[u64; 256],
-    links: &[u8; 511],
-    relations: &[u64],
-    number: Rule,
-) -> u64
-    requires { ⌜ Evaluable (now alphabet) (now automaton) (now form) (now table) (now links) × (number .0 < ruleCount (now form)) ⌝ }
-    ensures { λ r. ⌜ r ≡ relationOf (transitionsOf (now (alphabet .entry)) (now (automaton .entry))) (formRule (now (alphabet .entry)) (now (form .entry)) (number .0)) (entryIn (now (relations .entry))) ⌝ }
-{
-    let rule = rule_at(form, number);
-    let kind = rule.kind;
-    if kind < 2 {
-        let sets = slot_states(relations, rule);
-        if kind == 0 {
-            return step_closed(alphabet, automaton, links, rule.terminal, sets) as u64;
-        }
-        let hole = rule.hole as usize - 1;
-        return step_open(alphabet, automaton, links, rule.terminal, sets, hole);
-    }
-    let outer = entry_of(relations, rule.slot0);
-    let inner = entry_of(relations, rule.slot1);
-    if kind == 2 {
-        return apply(table, outer, inner);
-    }
-    compose(table, outer, inner)
-}
-
-// The entries of all rules, from the lowest on, into a lent slice.
-fn write_relations(alphabet: &[u8], automaton: &[u8], form: &[u8], relations: &mut [u64])
-    requires { ⌜ evaluationRefusal (now alphabet) (now automaton) (now form) (length (now relations)) ≡ 0 ⌝ }
-    ensures { λ _. ⌜ now (relations .exit) ≡ lentAfter 0 (relationsOf (now (alphabet .entry)) (now (automaton .entry)) (now (form .entry))) (now (relations .entry)) ⌝ }
-{
-    let table = spread_table();
-    let links = link_transitions(automaton);
-    let count = layout::rule_count(form);
-    let mut i = 0;
-    while i < count {
-        let relation = relation_of(
-            alphabet,
-            automaton,
-            form,
-            &table,
-            &links,
-            relations,
-            Rule(i as u16),
-        );
-        relations[i] = relation;
-        i += 1;
-    }
-}
-
 // Evaluates a form that the checks let through: the answer is the mask, and the slice ends with the rules' entries, its later numbers kept.
 pub fn evaluate_checked(alphabet: &[u8], automaton: &[u8], form: &[u8], relations: &mut [u64]) -> u8
     requires { ⌜ evaluationRefusal (now alphabet) (now automaton) (now form) (length (now relations)) ≡ 0 ⌝ }
     ensures { λ r. ⌜ r ≡ formMask (now (alphabet .entry)) (now (automaton .entry)) (now (form .entry)) ⌝ }
     ensures { λ _. ⌜ now (relations .exit) ≡ lentAfter 0 (relationsOf (now (alphabet .entry)) (now (automaton .entry)) (now (form .entry))) (now (relations .entry)) ⌝ }
 {
-    write_relations(alphabet, automaton, form, relations);
-    states_of(relations, layout::start_of(form))
+    let table = layout::table_of(form);
+    let rules = layout::rule_count(form);
+    let start = layout::start_of(form);
+    write_relations(alphabet, automaton, table, rules, relations);
+    states_of(relations, start)
 }
 
 // Evaluates a form: refused by 3 and 4 for the alphabet, 14 to 16 for the automaton, 18 for the form, 19 for a slice with fewer numbers than the form has rules.
-// The slice ends with the rules' entries, its later numbers kept.
-pub fn evaluate(alphabet: &[u8], automaton: &[u8], form: &[u8], relations: &mut [u64]) -> Evaluation
-    ensures { λ r. ⌜ r ≡ evaluation (now (alphabet .entry)) (now (automaton .entry)) (now (form .entry)) (length (now (relations .entry))) ⌝ }
-    ensures { λ r. ⌜ now (relations .exit) ≡ lentAfter (evaluationRefusal (now (alphabet .entry)) (now (automaton .entry)) (now (form .entry)) (length (now (relations .entry)))) (relationsOf (now (alphabet .entry)) (now (automaton .entry)) (now (form .entry))) (now (relations .entry)) ⌝ }
+// The slice ends with the rules' entries, its later numbers kept. The entries and the mask are what runs say.
+pub fn evaluate(alphabet: &[u8], automaton: &[u8], form: &[u8], relations: &mut [u64]) -> MaskAnswer
+    ensures answer { λ r. ⌜ answerOfMask r ≡ answer (evaluationRefusal (now (alphabet .entry)) (now (automaton .entry)) (now (form .entry)) (length (now (relations .entry)))) (formMask (now (alphabet .entry)) (now (automaton .entry)) (now (form .entry))) ⌝ }
+    ensures relations { λ _. ⌜ now (relations .exit) ≡ lentAfter (evaluationRefusal (now (alphabet .entry)) (now (automaton .entry)) (now (form .entry)) (length (now (relations .entry)))) (relationsOf (now (alphabet .entry)) (now (automaton .entry)) (now (form .entry))) (now (relations .entry)) ⌝ }
+    ensures runs { λ r. ⌜ RightByRuns (now (alphabet .entry)) (now (automaton .entry)) (now (form .entry)) (answerOfMask r) (now (relations .exit)) ⌝ }
 {
     let refusal = evaluation_refusal(alphabet, automaton, form, relations.len());
     if refusal != 0 {
-        return Evaluation::Refused(refusal);
+        return MaskAnswer::Refused(refusal);
     }
-    Evaluation::Mask(evaluate_checked(alphabet, automaton, form, relations))
+    MaskAnswer::Mask(evaluate_checked(alphabet, automaton, form, relations))
 }

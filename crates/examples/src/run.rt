@@ -1,22 +1,18 @@
 // Running a row that was read: its call is lent a slice of bytes and one of numbers, which are printed behind the answer.
-use counting::size::size;
 use evaluation::evaluate::evaluate;
-use forms::rule::read_rule;
 use labelling::label::label;
 use making::make_form;
 use mark_line::line::line_of;
 use mark_line::show::show_line;
+use opening::read;
 use plain_walk::walk::walk;
-use row_answers::answers::say_evaluation;
 use row_answers::answers::say_label;
-use row_answers::answers::say_making;
+use row_answers::answers::say_length;
 use row_answers::answers::say_marking;
+use row_answers::answers::say_mask;
 use row_answers::answers::say_reading;
 use row_answers::answers::say_size;
 use row_answers::answers::say_step;
-use row_answers::answers::say_unfolding;
-use row_answers::answers::say_walk;
-use row_answers::answers::say_wrapping;
 use row_answers::certify::certify_into;
 use rows::lend::BYTE;
 use rows::lend::MOST_BYTES;
@@ -45,6 +41,7 @@ use rows::show::show_numbers;
 use rows::words;
 use rows::words::UNREADABLE;
 use rows::words::say;
+use sizing::size::size;
 use tallies::mark::mark;
 use tallies::tally::Step;
 use tallies::tally::Tally;
@@ -131,16 +128,16 @@ fn answer(
     numbers: &mut [u64],
 ) {
     match call {
-        MAKE => say_making(make_form(a, bytes)),
+        MAKE => say_length(make_form(a, bytes)),
         MARK => say_marking(mark(a, bytes, numbers, tally_of(n[5], n[6], n[7]))),
         CERTIFY => certify_into(a, bytes, numbers, n),
-        RULE => say_reading(read_rule(a, b, rule_of(n[4]))),
-        EVALUATE => say_evaluation(evaluate(a, b, c, numbers)),
+        RULE => say_reading(read(a, b, rule_of(n[4]))),
+        EVALUATE => say_mask(evaluate(a, b, c, numbers)),
         SIZE => say_size(size(a, b, numbers)),
         LABEL => say_label(label(a, b, n[4] as u64, numbers)),
-        UNFOLD => say_unfolding(unfold(a, b, numbers, bytes)),
-        WALK => say_walk(walk(a, b, c, bytes)),
-        WRAP => say_wrapping(wrap(a, b, c, bytes)),
+        UNFOLD => say_length(unfold(a, b, numbers, bytes)),
+        WALK => say_mask(walk(a, b, c, bytes)),
+        WRAP => say_length(wrap(a, b, c, bytes)),
         _ => say_step(step(call, tally_of(n[2], n[3], n[4]))),
     }
 }

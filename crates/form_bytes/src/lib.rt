@@ -1,3 +1,3 @@
-// The bytes of a one-hole form: where its parts stand, and a rule as a value.
+// The bytes of a one-hole form: its parts, and a rule of its table.
 pub mod layout;
 pub mod rule;

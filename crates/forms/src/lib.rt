@@ -1,3 +1,2 @@
-// The check of a one-hole form, and reading a rule by its number.
+// The check of a one-hole form.
 pub mod check;
-pub mod rule;

@@ -1,5 +1,5 @@
 -- Rules one behind the other: what stands at a place of a rules body.
-use mathlib.Core.Path.{_≡_, refl, _∙_, ap}
+use mathlib.Core.Path.{_≡_, refl, sym, _∙_, ap}
 use mathlib.Core.Bool.{true, false}
 use mathlib.Core.List.{List, [], _∷_}
 use Prim.Native.Nat.{ℕ, zero, suc, _+_, _-_, _<_, _≤_}
@@ -7,11 +7,13 @@ use native.Mathlib.Omega.{arith}
 use native.Mathlib.Decide.{decLt, decLe}
 use borrow.Author.Tests.{le-leb, lt-leb}
 use lib.Dec.{leb}
-use lib.ListN.{length, getD, take, drop, length-drop, drop-of-length-le}
+use lib.ListN.{length, getD, take, drop, length-drop, drop-of-length-le, List·getD-eq-default}
 use lib.Seq.{drop-cons, drop-drop, length-take-le}
-use Rattle.terms.specs.Grammar.{Rule, nodeCount}
+use Rattle.terms.specs.Grammar.{ruleAt, nodeCount}
 use Rattle.terms.specs.Sheet.{RulesBody, withRule, readRules, rulesBody}
+use Rattle.grammars.specs.Cursor.{spanAt, ruleIn}
 use Rattle.grammars.specs.Rules.{endsReading}
+use Rattle.grammars.specs.declared.cursor.Span.{Span}
 use Rattle.grammars.specs.declared.rules.Rules.the-variants.{Refused, Read}
 
 -- as many steps as bytes are enough, and more change nothing
@@ -41,18 +43,26 @@ body-one : (b : ℕ) → rulesBody (b ∷ []) ≡ record { rules = []; ends = fa
 unfolding rulesBody readRules
 body-one b = refl
 
+-- a body that ends before a rule's nodes has no count of them
+abbrev spanTo : List ℕ → ℕ → ℕ → Span
+spanTo body at end = record { rank = getD body at 0; start = at + 2; end = end }
+
+pub span-cut : (body : List ℕ) (at : ℕ) → length body < at + 2 → spanTo body at (at + 2) ≡ spanAt body at
+span-cut body at h = ap (spanTo body at) (omega (arith, List·getD-eq-default body 0 {n = at + 1} (omega arith)))
+
+-- a span's places are in order
+pub span-ordered : (body : List ℕ) (at : ℕ) {span : Span} → span ≡ spanAt body at → (at < span .start) × (span .start ≤ span .end)
+span-ordered body at e = rw e (omega arith)
+
+pub span-count : (body : List ℕ) (at : ℕ) {span : Span} → span ≡ spanAt body at → span .end - span .start ≡ getD body (at + 1) 0
+span-count body at e = rw e (omega arith)
+
+-- the rule whose rank stands at a place
 module _ (body : List ℕ) (at : ℕ) where
-  -- the rule whose rank stands at a place: its node count, its nodes, and the place behind it
-  abbrev pub nodesAt : ℕ
-  nodesAt = getD body (at + 1) 0
+  abbrev span : Span
+  span = spanAt body at
 
-  abbrev pub behind : ℕ
-  behind = at + 2 + nodesAt
-
-  abbrev pub ruleThere : Rule
-  ruleThere = record { rank = getD body at 0; nodes = take nodesAt (drop (at + 2) body) }
-
-  two-bytes : at + 2 ≤ length body → drop at body ≡ getD body at 0 ∷ nodesAt ∷ drop (at + 2) body
+  two-bytes : at + 2 ≤ length body → drop at body ≡ getD body at 0 ∷ getD body (at + 1) 0 ∷ drop (at + 2) body
   two-bytes h =
       let a : at < length body = omega arith in
       let b : at + 1 < length body = omega arith in
@@ -61,41 +71,67 @@ module _ (body : List ℕ) (at : ℕ) where
       drop-cons body at 0 a ∙ rw (k, drop-cons body (at + 1) 0 b, l)
 
   here : at + 2 ≤ length body → rulesBody (drop at body)
-      ≡ withRule (ruleThere .rank) (ruleThere .nodes) (leb nodesAt (length body - (at + 2))) (rulesBody (drop behind body))
-  here h = rw (two-bytes h) (body-rule (getD body at 0) nodesAt (drop (at + 2) body) ∙ rw (length-drop, drop-drop))
+      ≡ withRule (span .rank) (ruleIn body span .nodes) (leb (getD body (at + 1) 0) (length body - (at + 2))) (rulesBody (drop (span .end) body))
+  here h = rw (span-count body at refl, two-bytes h) (body-rule (getD body at 0) (getD body (at + 1) 0) (drop (at + 2) body) ∙ rw (length-drop, drop-drop))
 
   -- a rule whose nodes are all there
-  whole : behind ≤ length body → rulesBody (drop at body) ≡ withRule (ruleThere .rank) (ruleThere .nodes) true (rulesBody (drop behind body))
+  whole : span .end ≤ length body → rulesBody (drop at body) ≡ withRule (span .rank) (ruleIn body span .nodes) true (rulesBody (drop (span .end) body))
   whole h =
-      let a : nodesAt ≤ length body - (at + 2) = omega arith in
+      let a : getD body (at + 1) 0 ≤ length body - (at + 2) = omega arith in
       here (omega arith) ∙ rw (le-leb _ _ a)
+
+  -- it has as many nodes as lie between the places
+  pub nodes-long : span .end ≤ length body → length (ruleIn body span .nodes) ≡ span .end - span .start
+  nodes-long h = length-take-le _ _ (rw length-drop (omega arith))
 
   -- nothing stands at the end
   none-there : length body ≤ at → rulesBody (drop at body) ≡ record { rules = []; ends = true }
   none-there h = rw (drop-of-length-le body h) body-none
 
   -- a rule that is cut off
-  cut : at < length body → length body < behind → rulesBody (drop at body) ≡ record { rules = []; ends = false }
+  cut : at < length body → length body < span .end → rulesBody (drop at body) ≡ record { rules = []; ends = false }
   cut h l = go (decLe (at + 2) (length body))
     where
       go : Dec (at + 2 ≤ length body) → rulesBody (drop at body) ≡ record { rules = []; ends = false }
       go (yes a) =
-          let b : length body - (at + 2) < nodesAt = omega arith in
+          let b : length body - (at + 2) < getD body (at + 1) 0 = omega arith in
           rw (here a, lt-leb _ _ b)
       go (no a) =
           let k : length body ≤ suc at = omega arith in
           rw (drop-cons body at 0 h, drop-of-length-le body k) (body-one _)
 
   -- where a rule stands, its nodes are all there, and what follows are the rules behind it
-  pub opened : 0 < length (rulesBody (drop at body) .rules)
-      → (behind ≤ length body) × (rulesBody (drop at body) .rules ≡ ruleThere ∷ rulesBody (drop behind body) .rules)
-  opened h = go (decLe behind (length body)) (decLt at (length body))
+  opened : 0 < length (rulesBody (drop at body) .rules)
+      → (span .end ≤ length body) × (rulesBody (drop at body) .rules ≡ ruleIn body span ∷ rulesBody (drop (span .end) body) .rules)
+  opened h = go (decLe (span .end) (length body)) (decLt at (length body))
     where
-      go : Dec (behind ≤ length body) → Dec (at < length body)
-          → (behind ≤ length body) × (rulesBody (drop at body) .rules ≡ ruleThere ∷ rulesBody (drop behind body) .rules)
+      go : Dec (span .end ≤ length body) → Dec (at < length body)
+          → (span .end ≤ length body) × (rulesBody (drop at body) .rules ≡ ruleIn body span ∷ rulesBody (drop (span .end) body) .rules)
       go (yes a) b = (a, rw (whole a))
       go (no a) (yes b) = absurd (omega (arith, rw (cut b (omega arith)) at h))
       go (no a) (no b) = absurd (omega (arith, rw (none-there (omega arith)) at h))
+
+-- rule i of a body stands whole in a span at a place, and the rules behind it follow
+pub record Standing (body : List ℕ) (at i : ℕ) (span : Span) : Type 0 where
+  pub starts : at < span .start
+  pub ends : span .start ≤ span .end
+  pub whole : span .end ≤ length body
+  pub rule : ruleAt (rulesBody body .rules) i ≡ ruleIn body span
+  pub next : drop (suc i) (rulesBody body .rules) ≡ rulesBody (drop (span .end) body) .rules
+
+module _ (body : List ℕ) (at i : ℕ) (rest : drop i (rulesBody body .rules) ≡ rulesBody (drop at body) .rules) (more : i < length (rulesBody body .rules)) where
+  there : Standing body at i (spanAt body at)
+  there =
+      let rules = rulesBody body .rules in
+      let o = opened body at (rw (← rest, length-drop) (omega arith)) in
+      let e = sym (drop-cons rules i (record { rank = 0; nodes = [] }) more) ∙ rest ∙ o .1 in
+      record { starts = omega arith; ends = omega arith; whole = o .0; rule = cc; next = cc }
+
+  pub inside-body : at < length body
+  inside-body = omega (arith, there .starts, there .ends, there .whole)
+
+  pub standing : {span : Span} → span ≡ spanAt body at → Standing body at i span
+  standing e = rw e there
 
 -- the rules before a place, n of them with m nodes: what is behind it adds what there is more
 pub record Passed (body : List ℕ) (at n m : ℕ) : Type 0 where
@@ -110,15 +146,16 @@ none-passed body = record { within = omega arith; ends = refl; rules = omega ari
 
 module _ (body : List ℕ) (at n m : ℕ) (p : Passed body at n m) where
   -- one rule more
-  pub rule-passed : behind body at ≤ length body → Passed body (behind body at) (n + 1) (m + nodesAt body at)
-  rule-passed h =
+  pub rule-passed : {span : Span} → span ≡ spanAt body at → span .end ≤ length body → Passed body (span .end) (n + 1) (m + (span .end - span .start))
+  rule-passed e h =
+      let h : spanAt body at .end ≤ length body = rw e at h in
       let w = whole body at h in
-      let l : length (ruleThere body at .nodes) ≡ nodesAt body at = length-take-le _ _ (rw length-drop (omega arith)) in
+      rw e
       record {
         within = h;
         ends = p .ends ∙ rw w;
         rules = omega (arith, p .rules, ap (λ (b : RulesBody). length (b .rules)) w);
-        nodes = omega (arith, p .nodes, l, ap (λ (b : RulesBody). nodeCount (b .rules)) w);
+        nodes = omega (arith, p .nodes, nodes-long body at h, ap (λ (b : RulesBody). nodeCount (b .rules)) w);
         few = omega (arith, p .few .0, p .few .1);
       }
 
@@ -131,5 +168,5 @@ module _ (body : List ℕ) (at n m : ℕ) (p : Passed body at n m) where
       rw (p .ends, e, r, k)
 
   -- a rule that is cut off
-  pub cut-short : at < length body → length body < behind body at → Refused 5 ≡ endsReading (rulesBody body)
-  cut-short h l = rw (p .ends, cut body at h l)
+  pub cut-short : {span : Span} → span ≡ spanAt body at → at < length body → length body < span .end → Refused 5 ≡ endsReading (rulesBody body)
+  cut-short e h l = rw (p .ends, cut body at h (rw e at l))

@@ -1,21 +1,25 @@
 -- The rules one after another: what the checks of the first rules have shown.
 use mathlib.Core.Path.{_≡_, refl, sym, _∙_, ap}
 use mathlib.Core.Bool.{not}
-use mathlib.Core.List.{List, []}
-use Prim.Native.Nat.{ℕ, suc, _+_, _-_, _<_, _≤_}
+use mathlib.Core.List.{List}
+use Prim.Native.Nat.{ℕ, _+_, _-_, _<_, _≤_}
 use native.Mathlib.Omega.{arith}
+use native.Mathlib.Numerals.{add-one}
 use borrow.Author.Count.{below-more}
 use lib.Dec.{eqb}
-use lib.ListN.{length, getD, drop, set, length-drop, length-set}
-use lib.Seq.{drop-cons, getD-set-same, getD-set-other}
+use lib.ListN.{length, getD, drop, set, length-set}
+use lib.Seq.{getD-set-same, getD-set-other}
 use Rattle.terms.specs.Refusal.{_when_}
-use Rattle.terms.specs.Grammar.{Rule, ruleAt, ruleRank}
+use Rattle.terms.specs.Grammar.{Rule, ruleRank}
 use Rattle.terms.specs.Sheet.{rulesBody}
 use Rattle.terms.specs.Check.{mostRules, ruleRefusal}
+use Rattle.grammars.specs.Cursor.{ruleIn}
 use Rattle.grammars.specs.Rules.{seenFrom, eachRefusal}
+use Rattle.grammars.specs.declared.cursor.Span.{Span}
 use Rattle.terms.proofs.Refusal.{stops, or-none, none-refused, first-refused}
-use Rattle.grammars.proofs.Body.{behind, ruleThere, opened}
-use Rattle.grammars.proofs.Rule.{rank-known, rule-seen, rank-seen, same-refusal}
+use Rattle.nodes.proofs.Node.{rank-known}
+use Rattle.grammars.proofs.Body.{Standing}
+use Rattle.grammars.proofs.Rule.{rule-seen, rank-seen, same-refusal}
 
 -- the rules of a body before rule i, whose bytes start at a place: their ranks are known, and none is refused
 pub record Checked (alphabet body ranks : List ℕ) (at i : ℕ) : Type 0 where
@@ -34,48 +38,35 @@ none-checked alphabet body ranks size = record {
   passed = λ k h. absurd (omega arith);
 }
 
--- rule i stands at the place, whole
-pub record Standing (body : List ℕ) (at i : ℕ) : Type 0 where
-  pub whole : behind body at ≤ length body
-  pub rule : ruleAt (rulesBody body .rules) i ≡ ruleThere body at
-  pub next : drop (i + 1) (rulesBody body .rules) ≡ rulesBody (drop (behind body at) body) .rules
-
 module _ (alphabet body ranks : List ℕ) (at i : ℕ) (c : Checked alphabet body ranks at i) where
   abbrev rules : List Rule
   rules = rulesBody body .rules
 
   module _ (more : i < length rules) where
-    pub standing : Standing body at i
-    standing =
-        let o = opened body at (rw (← c .rest, length-drop) (omega arith)) in
-        let e = sym (drop-cons rules i (record { rank = 0; nodes = [] }) more) ∙ c .rest ∙ o .1 in
-        let k : i + 1 ≡ suc i = omega arith in
-        record { whole = o .0; rule = cc; next = rw k (cc) }
-
-    -- the check of rule i from the known ranks is that from the rules
-    pub rule-check : i < mostRules
-        → ruleRefusal alphabet (seenFrom ranks i (ruleThere body at .rank) (ruleThere body at .nodes)) i ≡ ruleRefusal alphabet rules i
-    rule-check h =
-        let r = ruleThere body at in
-        let room : i < length ranks = omega (arith, c .size) in
-        sym (same-refusal alphabet rules (seenFrom ranks i (r .rank) (r .nodes)) i
-        (λ k l. c .lower k l ∙ sym (rank-known ranks k) ∙ sym (rank-seen alphabet ranks i (r .rank) (r .nodes) room k l))
-        (standing .rule ∙ sym (rule-seen alphabet ranks i (r .rank) (r .nodes) room)))
-
     -- rule i is refused
     pub rule-refused : (ruleRefusal alphabet rules i ≡ 0 → ⊥) → ruleRefusal alphabet rules i ≡ eachRefusal alphabet rules
     rule-refused h = sym (rw (first-refused (length rules) (ruleRefusal alphabet rules) i more (c .passed) h) (stops (ruleRefusal alphabet rules i) _ h))
 
-    -- rule i passes
-    pub rule-checked : i < mostRules → ruleRefusal alphabet rules i ≡ 0 → Checked alphabet body (set ranks i (ruleThere body at .rank)) (behind body at) (i + 1)
-    rule-checked h e = record {
-      below = omega arith;
-      rest = standing .next;
-      size = length-set ranks i _ ∙ c .size;
-      lower = below-more _ i (λ k l. c .lower k l ∙ sym (getD-set-other ranks i k _ 0 (λ q. omega arith)))
-          (ap (λ (r : Rule). r .rank) (standing .rule) ∙ sym (getD-set-same ranks i _ 0 (omega (arith, c .size))));
-      passed = below-more _ i (c .passed) e;
-    }
+    module _ (few : i < mostRules) {span : Span} (s : Standing body at i span) where
+      -- the check of rule i from the known ranks is that from the rules
+      pub rule-check : ruleRefusal alphabet (seenFrom ranks i (span .rank) (ruleIn body span .nodes)) i ≡ ruleRefusal alphabet rules i
+      rule-check =
+          let room : i < length ranks = omega (arith, c .size) in
+          let nodes = ruleIn body span .nodes in
+          sym (same-refusal alphabet rules (seenFrom ranks i (span .rank) nodes) i
+          (λ k l. c .lower k l ∙ sym (rank-known ranks k) ∙ sym (rank-seen alphabet ranks i (span .rank) nodes room k l))
+          (s .rule ∙ sym (rule-seen alphabet ranks i (span .rank) nodes room)))
+
+      -- rule i passes
+      pub rule-checked : ruleRefusal alphabet rules i ≡ 0 → Checked alphabet body (set ranks i (span .rank)) (span .end) (i + 1)
+      rule-checked e = record {
+        below = omega arith;
+        rest = rw (add-one) (s .next);
+        size = length-set ranks i _ ∙ c .size;
+        lower = below-more _ i (λ k l. c .lower k l ∙ sym (getD-set-other ranks i k _ 0 (λ q. omega arith)))
+            (ap (λ (r : Rule). r .rank) (s .rule) ∙ sym (getD-set-same ranks i _ 0 (omega (arith, c .size))));
+        passed = below-more _ i (c .passed) e;
+      }
 
   -- all n rules pass
   pub all-checked : (n : ℕ) → n ≡ length rules → 0 < n → n ≤ i → eachRefusal alphabet rules ≡ 13 when (not (eqb (getD ranks (n - 1) 0) 0))

@@ -1,5 +1,4 @@
 pub mod List
-pub mod Node
 pub mod Body
 pub mod Rule
 pub mod EachRule

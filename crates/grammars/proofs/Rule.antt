@@ -14,15 +14,10 @@ use Rattle.terms.specs.Tree.{exactly, wholes, taking}
 use Rattle.terms.specs.Grammar.{Name, terminal, nonterminal, parameter, nothing, name, Rule, ruleAt, ruleRank, nameRank, rankIn, allowed, allAllowed, isParameter, sumOver}
 use Rattle.terms.specs.Check.{highestRank, isOne, lone, ruleRefusal}
 use Rattle.terms.proofs.Test.{both-0, both-1, is-true, of-true}
-use Rattle.grammars.specs.Rules.{ruledBy, seenFrom, counting}
-use Rattle.grammars.specs.declared.wholes.Wholes.{Wholes}
+use Rattle.nodes.specs.Nodes.{ruledBy, counting}
+use Rattle.nodes.specs.declared.wholes.Wholes.{Wholes}
+use Rattle.grammars.specs.Rules.{seenFrom}
 use Rattle.terms.proofs.Scan.{drop-back, every-cong, all-part}
-
--- the rank of a rule of which only the rank is known
-pub rank-known : (ranks : List ℕ) (r : ℕ) → ruleRank (ruledBy ranks) r ≡ getD ranks r 0
-rank-known [] r = refl
-rank-known (n ∷ ranks) zero = refl
-rank-known (n ∷ ranks) (suc r) = rank-known ranks r
 
 -- the rows 8 to 12 of the table, by their tests
 abbrev pub rows : Bool → Bool → Bool → Bool → Bool → ℕ

@@ -1,5 +1,3 @@
-// The rules of a sheet: what a node names, and what is refused of a rule.
-pub mod name;
-mod parameters;
+// The rules of a sheet: where the rule at a place of a rules body stands, and what is refused of a rule.
+pub mod cursor;
 pub mod rules;
-mod wholes;

@@ -1,16 +1,17 @@
 // The rules of a sheet: their counts, and what is refused of them.
-use crate::name::allowed;
-use crate::name::is_parameter;
-use crate::name::name_of;
-use crate::name::name_rank;
-use crate::parameters::count_parameter;
-use crate::parameters::each_once;
-use crate::wholes::Wholes;
-use crate::wholes::is_one;
-use crate::wholes::taking;
+use crate::cursor::span_at;
 use checks::limits::HIGHEST_RANK;
 use checks::limits::MOST_NODES;
 use checks::limits::MOST_RULES;
+use nodes::name::allowed;
+use nodes::name::is_parameter;
+use nodes::name::name_of;
+use nodes::name::name_rank;
+use nodes::parameters::count_parameter;
+use nodes::parameters::each_once;
+use nodes::wholes::Wholes;
+use nodes::wholes::is_one;
+use nodes::wholes::taking;
 use terms::Rule;
 ghost use mathlib.Core.Path.{_≡_};
 ghost use Prim.Native.Nat.{_<_, _≤_};
@@ -79,17 +80,13 @@ fn count_rules(body: &[u8]) -> Rules
     let mut rules: usize = 0;
     let mut nodes: usize = 0;
     while at < body.len() {
-        let behind = body.len() - at;
-        if behind < 2 {
-            return Rules::Refused(5);
-        }
-        let count = body[at + 1] as usize;
-        if behind - 2 < count {
+        let span = span_at(body, at);
+        if body.len() < span.end {
             return Rules::Refused(5);
         }
         rules += 1;
-        nodes += count;
-        at = at + 2 + count;
+        nodes += span.end - span.start;
+        at = span.end;
     }
     Rules::Read(Counts { rules, nodes })
 }
@@ -103,14 +100,14 @@ fn each_refusal(alphabet: &[u8], body: &[u8], rules: usize) -> u8
     let mut at = 0;
     let mut rule = Rule(0);
     while (rule.0 as usize) < rules {
-        let start = at + 2;
-        let end = start + body[at + 1] as usize;
-        let rank = body[at];
-        let refused = rule_refusal(alphabet, &ranks, rule, rank, &body[start..end]);
+        let span = span_at(body, at);
+        let start = span.start;
+        let end = span.end;
+        let refused = rule_refusal(alphabet, &ranks, rule, span.rank, &body[start..end]);
         if refused != 0 {
             return refused;
         }
-        ranks[rule.0 as usize] = rank;
+        ranks[rule.0 as usize] = span.rank;
         at = end;
         rule = Rule(rule.0 + 1);
     }

@@ -1,4 +1,2 @@
-pub mod Descent
-pub mod Places
 pub mod Start
 pub mod Answers

@@ -1,2 +1,1 @@
 pub mod Label
-pub mod Private

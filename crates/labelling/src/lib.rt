@@ -1,4 +1,3 @@
 // The terminal at a position of a form's tree.
 pub mod answer;
 pub mod label;
-mod place;

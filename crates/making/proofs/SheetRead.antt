@@ -1,31 +1,34 @@
 -- What reading a sheet says of making its form: what is refused, and that its parts are a grammar over its alphabet.
 use mathlib.Core.Path.{_≡_, refl, sym, ap}
 use mathlib.Core.List.{List}
-use Prim.Native.Nat.{ℕ, zero, suc, _+_, _*_, _-_, _≤_, _<_}
+use Prim.Native.Nat.{ℕ, zero, suc, _+_, _-_, _≤_, _<_}
 use native.Mathlib.Omega.{arith}
 use borrow.Author.Tests.{lt-ltb, le-ltb}
 use lib.ListN.{length, take, drop, length-drop}
 use lib.Seq.{length-take-le}
-use Rattle.terms.specs.FormBytes.{ruleOffset}
-use Rattle.terms.specs.Sheet.{bodyOffset, body, alphabetOf, rulesBody, rulesOf, nodesOf}
-use Rattle.terms.specs.Check.{mostNodes, sheetRefusal}
-use Rattle.terms.specs.Calls.{makingRefusal}
+use Rattle.terms.specs.FormBytes.{headLength, formLength, tableOf, mostFormRules}
+use Rattle.terms.specs.Sheet.{bodyOffset, body, alphabetOf, rulesBody, rulesOf}
+use Rattle.terms.specs.Check.{sheetRefusal}
+use Rattle.terms.specs.Answer.{Answer, refused, answered, answer}
+use Rattle.terms.specs.Calls.{lentAfter, rulesAsked, makingRefusal}
 use Rattle.terms.proofs.Sheet.Bodies.{Joined, joined}
 use Rattle.terms.proofs.Sheet.Grammar.{rules-passed}
 use Rattle.terms.proofs.Sheet.Passed.{SheetPassed, sheet-passed}
-use Rattle.sheets.specs.Sheet.{sheetAfter, sheetReading}
+use Rattle.skeletons.proofs.Result.{bound-linear}
+use Rattle.sheets.proofs.Asked.{asked-small}
+use Rattle.sheets.specs.Sheet.{layoutOf, sheetReading}
 use Rattle.sheets.specs.declared.sheet.Layout.{Layout}
-use Rattle.sheets.specs.declared.sheet.Reading.the-variants.{Refused, Sheet}
 use Rattle.right_sides.specs.Rules.{Grammar}
-use Rattle.making.specs.Making.{FormWritten}
+use Rattle.making.specs.Making.{formOf, FormMade}
+use Rattle.making.specs.Private.Read.{FormWritten}
 
 module _ (s : List ℕ) (room : ℕ) where
   -- a sheet that is refused
-  pub sheet-refused : (n : ℕ) → sheetReading s ≡ Refused n → (n ≡ makingRefusal s room) × (0 < n)
+  pub sheet-refused : (n : ℕ) → sheetReading s ≡ refused n → (n ≡ makingRefusal s room) × (0 < n)
   unfolding makingRefusal
   sheet-refused n e = go (sheetRefusal s) refl e
     where
-      go : (m : ℕ) → sheetRefusal s ≡ m → sheetAfter m s ≡ Refused n → (n ≡ makingRefusal s room) × (0 < n)
+      go : (m : ℕ) → sheetRefusal s ≡ m → answer m (layoutOf s) ≡ refused n → (n ≡ makingRefusal s room) × (0 < n)
       go zero t e = absurd (let z : _≡_ {A = ℕ} 0 1 = cc in omega arith)
       go (suc m) t e = let z : n ≡ suc m = cc in (rw t z, omega arith)
 
@@ -34,14 +37,17 @@ pub record SheetRead (s : List ℕ) (l : Layout) : Type 0 where
   pub passed : sheetRefusal s ≡ 0
   pub terminals : l .terminals ≡ length (alphabetOf s)
   pub rules : l .rules ≡ length (rulesOf s)
-  pub nodes : l .nodes ≡ nodesOf s
+  pub asked : l .asked ≡ rulesAsked s
+  pub small : l .asked ≤ mostFormRules
   pub automaton : l .automaton ≡ bodyOffset s 2
 
-pub sheet-read : (s : List ℕ) (l : Layout) → sheetReading s ≡ Sheet l → SheetRead s l
+pub sheet-read : (s : List ℕ) (l : Layout) → sheetReading s ≡ answered l → SheetRead s l
 sheet-read s l e = go (sheetRefusal s) refl e
   where
-    go : (m : ℕ) → sheetRefusal s ≡ m → sheetAfter m s ≡ Sheet l → SheetRead s l
-    go zero t e = record { passed = t; terminals = cc; rules = cc; nodes = cc; automaton = cc }
+    go : (m : ℕ) → sheetRefusal s ≡ m → answer m (layoutOf s) ≡ answered l → SheetRead s l
+    go zero t e =
+        let k : l .asked ≡ rulesAsked s = cc in
+        record { passed = t; terminals = cc; rules = cc; asked = k; small = omega (arith, asked-small s t); automaton = cc }
     go (suc m) t e = absurd (let z : _≡_ {A = ℕ} 0 1 = cc in omega arith)
 
 module _ {s : List ℕ} {l : Layout} (r : SheetRead s l) where
@@ -53,10 +59,6 @@ module _ {s : List ℕ} {l : Layout} (r : SheetRead s l) where
 
   where-bodies : Joined s
   where-bodies = joined s (passed .joined)
-
-  pub few-nodes : l .nodes ≤ mostNodes
-  unfolding nodesOf rulesOf
-  few-nodes = omega (arith, r .nodes, rules-passed (alphabetOf s) (body s 1) (passed .rules) .few-nodes)
 
   starts : bodyOffset s 1 ≡ at
   starts =
@@ -74,29 +76,46 @@ module _ {s : List ℕ} {l : Layout} (r : SheetRead s l) where
   rules-part = rw (r .automaton, ← starts) (sym (where-bodies .rules))
 
   -- the refusal of a slice that is too short, and none
-  pub too-short : (room : ℕ) → room < ruleOffset (16 * l .nodes) → 17 ≡ makingRefusal s room
+  pub too-short : (room : ℕ) → room < formLength (l .asked) → 17 ≡ makingRefusal s room
   unfolding makingRefusal
-  too-short room h = rw (r .passed, lt-ltb room (ruleOffset (16 * nodesOf s)) (rw (r .nodes) at h))
+  too-short room h = rw (r .passed, lt-ltb room (formLength (rulesAsked s)) (rw (r .asked) at h))
 
-  pub long-enough : (room : ℕ) → ruleOffset (16 * l .nodes) ≤ room → 0 ≡ makingRefusal s room
+  pub long-enough : (room : ℕ) → formLength (l .asked) ≤ room → 0 ≡ makingRefusal s room
   unfolding makingRefusal
-  long-enough room h = rw (r .passed, le-ltb room (ruleOffset (16 * nodesOf s)) (rw (r .nodes) at h))
+  long-enough room h = rw (r .passed, le-ltb room (formLength (rulesAsked s)) (rw (r .asked) at h))
 
-  -- the parts are a grammar over the alphabet
-  pub grammar : (form : List ℕ) → ruleOffset (16 * l .nodes) ≤ length form → {xs ys : List ℕ} → xs ≡ alphabetOf s → ys ≡ body s 1 → Grammar form xs ys (l .rules)
-  unfolding nodesOf rulesOf
+  -- the parts are a grammar over the alphabet, and the table has room for its form's rules
+  pub grammar : (form : List ℕ) → formLength (l .asked) ≤ length form → {xs ys : List ℕ} → xs ≡ alphabetOf s → ys ≡ body s 1
+      → (headLength ≤ length form) × Grammar (tableOf form) xs ys (l .rules)
+  unfolding rulesOf
   grammar form h a b =
       let p = rules-passed (alphabetOf s) (body s 1) (passed .rules) in
-      rw (a, b)
-      record {
-        alphabet = passed .alphabet;
-        proper = p .proper;
-        count = r .rules;
-        few = p .few-nodes;
-        room = rw (r .nodes) at h;
-      }
+      rw (a, b) (
+        omega arith,
+        record {
+          alphabet = passed .alphabet;
+          proper = p .proper;
+          count = r .rules;
+          few = p .few-nodes;
+          room = omega (arith, r .asked, bound-linear (alphabetOf s) (rulesBody (body s 1) .rules) (p .proper), length-drop headLength form);
+        },
+      )
 
   -- a form of the parts is a form of the sheet
   pub sheet-made : {xs ys : List ℕ} {n : ℕ} {exit entry : List ℕ} → xs ≡ alphabetOf s → ys ≡ body s 1 → FormWritten xs (rulesBody ys .rules) n exit entry → FormWritten (alphabetOf s) (rulesOf s) n exit entry
   unfolding rulesOf
   sheet-made a b w = rw (a, b) at w
+
+-- What form making answers and leaves, by its refusal.
+
+module _ (s entry : List ℕ) where
+  abbrev Answered : ℕ → Answer ℕ → List ℕ → Type 0
+  Answered refusal given exit =
+      (given ≡ answer refusal (length (formOf s))) × ((exit ≡ lentAfter refusal (formOf s) entry) × (refusal ≡ 0 → FormMade s (length entry)))
+
+  pub none-made : {n : ℕ} (refusal : ℕ) → n ≡ refusal → 0 < n → Answered refusal (refused n) entry
+  none-made zero e h = absurd (omega arith)
+  none-made (suc k) e h = (ap refused e, (refl, λ z. absurd (omega arith)))
+
+  pub form-made : {n : ℕ} {refusal : ℕ} {exit : List ℕ} → 0 ≡ refusal → FormWritten (alphabetOf s) (rulesOf s) n exit entry → Answered refusal (answered n) exit
+  form-made e w = rw (← e) (ap answered (w .long), (w .bytes, λ z. record { holds = w .holds; within = omega (arith, w .long, w .within) }))

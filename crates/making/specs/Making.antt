@@ -1,33 +1,38 @@
--- What form making answers, and what holds of the form that it writes (document 01, "One-hole form").
+-- What form making answers and leaves, and what holds of the form that it writes (document 01, "One-hole form").
 use mathlib.Core.Path.{_≡_}
 use mathlib.Core.List.{List}
-use Prim.Native.Nat.{ℕ, _*_, _<_, _≤_}
-use lib.ListN.{length, take, drop}
-use Rattle.terms.specs.Grammar.{Rule, nodeCount, derived}
+use Prim.Native.Nat.{ℕ, _≤_}
+use lib.ListN.{length}
+use Rattle.terms.specs.Grammar.{Rule, derived}
 use Rattle.terms.specs.Form.{formBound}
 use Rattle.terms.specs.FormBytes.{ruleCount, formTree, formRefusal}
 use Rattle.terms.specs.Sheet.{alphabetOf, rulesOf}
+use Rattle.terms.specs.Answer.{Answer, answer}
+use Rattle.terms.specs.Calls.{lentAfter, rulesFor, makingRefusal}
 use Rattle.skeletons.specs.Form.{madeForm}
-use Rattle.making.specs.declared.Making.{Making}
-use Rattle.making.specs.declared.Making.the-variants.{Refused, Written}
 
--- the first n bytes of a slice are a form of a grammar, no longer than both bounds, and the later ones are kept (01 One-hole form)
-pub record FormWritten (alphabet : List ℕ) (grammar : List Rule) (n : ℕ) (exit entry : List ℕ) : Type 0 where
-  -- the bytes depend on the sheet alone, whatever the slice held
-  pub bytes : take n exit ≡ madeForm alphabet grammar
-  pub accepted : formRefusal alphabet (take n exit) ≡ 0
-  pub tree : formTree alphabet (take n exit) ≡ derived alphabet grammar
-  pub few : ruleCount (take n exit) ≤ formBound grammar
-  pub linear : ruleCount (take n exit) ≤ 16 * nodeCount grammar
-  pub within : n ≤ length entry
-  pub kept : drop n exit ≡ drop n entry
+-- the form that is made of a sheet: its bytes depend on the sheet alone (01 One-hole form)
+abbrev pub formOf : List ℕ → List ℕ
+formOf sheet = madeForm (alphabetOf sheet) (rulesOf sheet)
 
--- the number of a refusal, 0 where a form is written (01 Refusals)
-abbrev pub refusalOf : Making → ℕ
-refusalOf (Refused n) = n
-refusalOf (Written n) = 0
+-- the lent slice after form making: the form, and then its later bytes (01 One-hole form)
+abbrev pub formLeft : List ℕ → List ℕ → List ℕ
+formLeft sheet entry = lentAfter (makingRefusal sheet (length entry)) (formOf sheet) entry
 
--- how form making leaves the lent slice: as it was where it refuses by a number, else with a form of the sheet (01 One-hole form)
-abbrev pub Leaves : List ℕ → Making → List ℕ → List ℕ → Type 0
-Leaves sheet (Refused n) exit entry = (0 < n) × (exit ≡ entry)
-Leaves sheet (Written n) exit entry = FormWritten (alphabetOf sheet) (rulesOf sheet) n exit entry
+-- what holds of the bytes of a form of a grammar: they are accepted, derive the grammar's tree and keep both bounds (01 One-hole form)
+pub record FormHolds (alphabet : List ℕ) (grammar : List Rule) (form : List ℕ) : Type 0 where
+  pub accepted : formRefusal alphabet form ≡ 0
+  pub tree : formTree alphabet form ≡ derived alphabet grammar
+  pub few : ruleCount form ≤ formBound grammar
+  pub linear : ruleCount form ≤ rulesFor grammar
+
+-- what holds of the form that is made of a sheet, where nothing is refused of it and of so many bytes lent (01 One-hole form)
+pub record FormMade (sheet : List ℕ) (room : ℕ) : Type 0 where
+  pub holds : FormHolds (alphabetOf sheet) (rulesOf sheet) (formOf sheet)
+  pub within : length (formOf sheet) ≤ room
+
+-- form making as one of several calls in turn: its answer, the slice and what holds of the form (01 One-hole form)
+pub record Makes (sheet : List ℕ) (r : Answer ℕ) (exit entry : List ℕ) : Type 0 where
+  pub answered : r ≡ answer (makingRefusal sheet (length entry)) (length (formOf sheet))
+  pub left : exit ≡ formLeft sheet entry
+  pub made : makingRefusal sheet (length entry) ≡ 0 → FormMade sheet (length entry)

@@ -8,29 +8,24 @@ use right_sides::rules::make_rules;
 use sheets::sheet::Layout;
 use sheets::sheet::Reading;
 use sheets::sheet::read_sheet;
+use terms::answers::LengthAnswer;
 ghost use mathlib.Core.Path.{_≡_};
 ghost use lib.ListN.{length};
+ghost use Prim.Native.Nat.{_≤_};
+ghost use Rattle.terms.specs.FormBytes.{headLength, tableOf};
+ghost use Rattle.terms.specs.Answer.{answer, answerOfLength};
 ghost use Rattle.terms.specs.Calls.{makingRefusal};
 ghost use Rattle.terms.specs.Sheet.{alphabetOf, rulesBody, rulesOf};
 ghost use Rattle.right_sides.specs.Rules.{Grammar};
-ghost use Rattle.making.specs.Making.{FormWritten, refusalOf, Leaves};
-ghost use Rattle.making.specs.Private.Read.{ReadWithRoom};
-
-// How many rules of a form a node of a sheet may take.
-pub const RULES_FOR_NODE: usize = 16;
-
-// What making a form answers: the refusal, or the length of the form.
-pub enum Making {
-    Refused(u8),
-    Written(usize),
-}
+ghost use Rattle.making.specs.Making.{formOf, formLeft, FormMade};
+ghost use Rattle.making.specs.Private.Read.{ReadWithRoom, FormWritten};
 
 // The form of the rules of a body, whose length is the answer; later bytes are kept.
 fn write_form(form: &mut [u8], alphabet: &[u8], body: &[u8], rules: usize) -> usize
-    requires { ⌜ Grammar (now form) (now alphabet) (now body) rules ⌝ }
+    requires { ⌜ (headLength ≤ length (now form)) × Grammar (tableOf (now form)) (now alphabet) (now body) rules ⌝ }
     ensures { λ r. ⌜ FormWritten (now (alphabet .entry)) (rulesBody (now (body .entry)) .rules) r (now (form .exit)) (now (form .entry)) ⌝ }
 {
-    let made = make_rules(form, alphabet, body, rules);
+    let made = make_rules(&mut form[HEAD..], alphabet, body, rules);
     let count = made.count.0 as usize;
     let start = made.start;
     write_head(form, count, start);
@@ -54,17 +49,18 @@ pub fn make_read(sheet: &[u8], layout: Layout, form: &mut [u8]) -> usize
 }
 
 // A form of the sheet, into a lent slice.
-pub fn make_form(sheet: &[u8], form: &mut [u8]) -> Making
-    ensures { λ r. ⌜ refusalOf r ≡ makingRefusal (now (sheet .entry)) (length (now (form .entry))) ⌝ }
-    ensures { λ r. ⌜ Leaves (now (sheet .entry)) r (now (form .exit)) (now (form .entry)) ⌝ }
+pub fn make_form(sheet: &[u8], form: &mut [u8]) -> LengthAnswer
+    ensures answer { λ r. ⌜ answerOfLength r ≡ answer (makingRefusal (now (sheet .entry)) (length (now (form .entry)))) (length (formOf (now (sheet .entry)))) ⌝ }
+    ensures slice { λ _. ⌜ now (form .exit) ≡ formLeft (now (sheet .entry)) (now (form .entry)) ⌝ }
+    ensures form { λ _. ⌜ (makingRefusal (now (sheet .entry)) (length (now (form .entry))) ≡ 0 → FormMade (now (sheet .entry)) (length (now (form .entry)))) ⌝ }
 {
     match read_sheet(sheet) {
-        Reading::Refused(n) => Making::Refused(n),
+        Reading::Refused(n) => LengthAnswer::Refused(n),
         Reading::Sheet(layout) => {
-            if form.len() < HEAD + RULE * (RULES_FOR_NODE * layout.nodes) {
-                return Making::Refused(17);
+            if form.len() < HEAD + RULE * layout.asked {
+                return LengthAnswer::Refused(17);
             }
-            Making::Written(make_read(sheet, layout, form))
+            LengthAnswer::Written(make_read(sheet, layout, form))
         }
     }
 }

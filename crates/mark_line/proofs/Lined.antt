@@ -1,88 +1,76 @@
 -- The line of a sheet by its marking, with room for the largest sheet.
 use mathlib.Core.Path.{_≡_, refl, sym, ap, subst, _∙_}
-use mathlib.Core.Bool.{Bool, true, false}
 use mathlib.Core.List.{List}
-use Prim.Native.Nat.{ℕ, zero, suc, _*_}
+use Prim.Native.Nat.{ℕ, zero, suc}
 use native.Mathlib.Omega.{arith}
 use borrow.Author.Tests.{le-ltb}
 use lib.ListN.{length, replicate, length-replicate}
-use Rattle.terms.specs.Sheet.{body, alphabetOf, rulesOf, nodesOf, Verdict, accepted, declined, sheetTree, sheetMask, sheetVerdict}
+use Rattle.terms.specs.Sheet.{Verdict, sheetTree, sheetMask, sheetVerdict}
 use Rattle.terms.specs.Check.{sheetRefusal}
-use Rattle.terms.specs.FormBytes.{ruleOffset}
+use Rattle.terms.specs.FormBytes.{formLength, mostFormRules}
 use Rattle.terms.specs.Count.{sizeOf, capped}
-use Rattle.terms.specs.Calls.{makingRefusal, sheetMarkingRefusal}
-use Rattle.terms.proofs.Test.{of-true}
-use Rattle.terms.proofs.Sheet.Grammar.{rules-passed}
-use Rattle.terms.proofs.Sheet.Passed.{sheet-passed}
-use Rattle.making.proofs.Formed.{form-of}
-use Rattle.marking.specs.declared.answer.Mark.{Mark}
-use Rattle.marking.specs.declared.answer.Mark.the-variants as mark
-use Rattle.marking.specs.Marking.{orVerdict, SlicesLeft}
-use Rattle.mark_line.specs.Line.{orLine, lineOf}
+use Rattle.terms.specs.Calls.{rulesAsked, makingRefusal, sheetMarkingRefusal}
+use Rattle.sheets.proofs.Asked.{asked-small}
+use Rattle.making.specs.Making.{formOf}
+use Rattle.making.proofs.Formed.{form-of, written-first}
+use Rattle.terms.specs.Answer.{Answer, refused, answered, answer}
+use Rattle.marking.specs.Marking.{MarkAnswer, sheetMark, SlicesLeft}
+use Rattle.mark_line.specs.Line.{lineOf}
 use Rattle.mark_line.specs.Private.MarkedForm.{MarkedForm}
-use Rattle.mark_line.specs.declared.line.Line.{Line}
-use Rattle.mark_line.specs.declared.line.Line.the-variants.{Refused, Accepted, Declined}
 
 -- where there is room for the largest sheet, marking refuses what is refused of the sheet alone
-room-enough : (sheet : List ℕ) (room numbers : ℕ) → room ≡ 24580 → numbers ≡ 2048 → sheetMarkingRefusal sheet room numbers ≡ sheetRefusal sheet
-unfolding sheetMarkingRefusal makingRefusal nodesOf rulesOf
+room-enough : (sheet : List ℕ) (room numbers : ℕ) → room ≡ formLength mostFormRules → numbers ≡ mostFormRules → sheetMarkingRefusal sheet room numbers ≡ sheetRefusal sheet
+unfolding sheetMarkingRefusal makingRefusal
 room-enough sheet room numbers a b = go (sheetRefusal sheet) refl
   where
     go : (n : ℕ) → sheetRefusal sheet ≡ n → sheetMarkingRefusal sheet room numbers ≡ n
     go zero e =
-        let few = rules-passed (alphabetOf sheet) (body sheet 1) (sheet-passed sheet e .rules) .few-nodes in
-        rw (e, le-ltb room (ruleOffset (16 * nodesOf sheet)) (omega arith), le-ltb numbers (16 * nodesOf sheet) (omega arith))
+        let small = asked-small sheet e in
+        rw (e, le-ltb room (formLength (rulesAsked sheet)) (omega arith), le-ltb numbers (rulesAsked sheet) (omega arith))
     go (suc n) e = rw e
 
 -- an answer of marking as a line, with a size
-abbrev line : Mark → ℕ → Line
-line (mark.Refused n) size = Refused n
-line (mark.Accepted mask) size = Accepted mask size
-line (mark.Declined mask) size = Declined mask size
+abbrev line : MarkAnswer → ℕ → Answer (Verdict × ℕ × ℕ)
+line (refused n) size = refused n
+line (answered (verdict, mask)) size = answered (verdict, mask, size)
 
-verdict-line : (k : ℕ) (v : Verdict) (mask size : ℕ) → line (orVerdict k v mask) size ≡ orLine k v mask size
-verdict-line zero accepted mask size = refl
-verdict-line zero declined mask size = refl
-verdict-line (suc k) v mask size = refl
+mark-line : (k : ℕ) (v : Verdict) (mask size : ℕ) → line (answer k (v, mask)) size ≡ answer k (v, mask, size)
+mark-line zero v mask size = refl
+mark-line (suc k) v mask size = refl
 
 -- an answer that is no refusal
-abbrev answered : Mark → Bool
-answered (mark.Refused n) = false
-answered (mark.Accepted mask) = true
-answered (mark.Declined mask) = true
-
-not-refused : (k : ℕ) (v : Verdict) (mask : ℕ) (r : Mark) → orVerdict k v mask ≡ r → answered r ≡ true → k ≡ 0
-not-refused zero v mask r e h = refl
-not-refused (suc k) v mask r e h = absurd (of-true false (ap answered e ∙ h))
+not-refused : (k : ℕ) (mark mark′ : Verdict × ℕ) → answer k mark ≡ answered mark′ → k ≡ 0
+not-refused zero mark mark′ e = refl
+not-refused (suc k) mark mark′ e = absurd (let z : _≡_ {A = ℕ} 0 1 = cc in omega arith)
 
 -- the slices as they are lent, with room for the largest sheet
 abbrev form : List ℕ
-form = replicate 24580 0
+form = replicate (formLength mostFormRules) 0
 
 abbrev relations : List ℕ
-relations = replicate 2048 0
+relations = replicate mostFormRules 0
 
-module _ (sheet : List ℕ) (r : Mark) (answer : orVerdict (sheetMarkingRefusal sheet (length form) (length relations)) (sheetVerdict sheet) (sheetMask sheet) ≡ r) where
-  abbrev refused : ℕ
-  refused = sheetMarkingRefusal sheet (length form) (length relations)
+module _ (sheet : List ℕ) {r : MarkAnswer} (given : answer (sheetMarkingRefusal sheet (length form) (length relations)) (sheetMark sheet) ≡ r) where
+  abbrev refusal : ℕ
+  refusal = sheetMarkingRefusal sheet (length form) (length relations)
 
-  only-sheet : refused ≡ sheetRefusal sheet
-  only-sheet = room-enough sheet (length form) (length relations) (length-replicate {A = ℕ} 24580 0) (length-replicate {A = ℕ} 2048 0)
+  only-sheet : refusal ≡ sheetRefusal sheet
+  only-sheet = room-enough sheet (length form) (length relations) (length-replicate {A = ℕ} (formLength mostFormRules) 0) (length-replicate {A = ℕ} mostFormRules 0)
 
   pub lined : line r (capped (sizeOf (sheetTree sheet))) ≡ lineOf sheet
   lined =
       let size = capped (sizeOf (sheetTree sheet)) in
-      ap (λ (x : Mark). line x size) (sym answer) ∙ verdict-line refused (sheetVerdict sheet) (sheetMask sheet) size
-      ∙ ap (λ (k : ℕ). orLine k (sheetVerdict sheet) (sheetMask sheet) size) only-sheet
+      ap (λ (x : MarkAnswer). line x size) (sym given) ∙ mark-line refusal (sheetVerdict sheet) (sheetMask sheet) size
+      ∙ ap (λ (k : ℕ). answer k (sheetVerdict sheet, sheetMask sheet, size)) only-sheet
 
   -- the sheet passes, and the slice begins with its form
-  pub form-marked : answered r ≡ true → (form′ relations′ : List ℕ) → length form′ ≡ length form → SlicesLeft refused sheet form′ form relations′ relations → MarkedForm sheet form′
+  pub form-marked : {mark : Verdict × ℕ} → r ≡ answered mark → (form′ relations′ : List ℕ) → length form′ ≡ length form → SlicesLeft refusal sheet form′ form relations′ relations → MarkedForm sheet form′
   form-marked h form′ relations′ same s =
-      let none = not-refused refused (sheetVerdict sheet) (sheetMask sheet) r answer h in
+      let none = not-refused refusal (sheetMark sheet) _ (given ∙ h) in
       let left = subst (λ (k : ℕ). SlicesLeft k sheet form′ form relations′ relations) none s in
       record {
         passes = sym only-sheet ∙ none;
-        written = left .written;
-        formed = form-of sheet (left .formed);
-        within = omega (arith, left .formed .within, same);
+        written = length (formOf sheet);
+        formed = rw (written-first (formOf sheet) form refl (left .formed)) (form-of sheet (left .made refl .holds));
+        within = omega (arith, left .made refl .within, same);
       }

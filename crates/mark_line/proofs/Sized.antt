@@ -10,19 +10,20 @@ use lib.ListN.{length, take, drop}
 use lib.Seq.{getD-take, length-take-le}
 use Rattle.terms.specs.Bytes.{word}
 use Rattle.terms.specs.Sheet.{bodyOffset, alphabetOf, sheetTree}
-use Rattle.terms.specs.FormBytes.{ruleCount, ruleOffset}
-use Rattle.terms.specs.Count.{sizeOf, largest, capped, sizeAnswer}
-use Rattle.terms.specs.Count as count
-use Rattle.terms.specs.Calls.{sizeRefusal, unfoldingRefusal}
+use Rattle.terms.specs.FormBytes.{headLength, formLength, ruleCount, mostFormRules, formTree}
+use Rattle.terms.specs.Count.{sizeOf, largest, capped, Size, exact, over, sizeAnswer}
+use Rattle.terms.specs.Calls.{countsPerRule, sizeRefusal, unfoldingRefusal}
 use Rattle.terms.proofs.Demand.{form-meets}
 use Rattle.terms.proofs.Refusal.{none-before}
 use Rattle.terms.proofs.Form.Bytes.{form-passed}
 use Rattle.terms.proofs.Sheet.Bodies.{joined}
 use Rattle.terms.proofs.Sheet.Passed.{sheet-passed, alphabet-passed}
-use Rattle.counting.specs.Size.{sized, sizeCall}
-use Rattle.counting.specs.declared.answer.Size.{Size}
-use Rattle.counting.specs.declared.answer.Size.the-variants.{Refused, Exact, Over}
+use Rattle.terms.specs.Answer.{Answer, refused, answered, answer}
 use Rattle.mark_line.specs.Private.MarkedForm.{MarkedForm}
+
+-- what size says of a form, with so many numbers lent
+abbrev sizeSaid : List ℕ → List ℕ → ℕ → Answer Size
+sizeSaid alphabet form numbers = answer (sizeRefusal alphabet form numbers) (sizeAnswer (sizeOf (formTree alphabet form)))
 
 -- where alphabet and form lie
 pub record Parts (sheet form : List ℕ) : Type 0 where
@@ -30,9 +31,9 @@ pub record Parts (sheet form : List ℕ) : Type 0 where
   pub first : 12 ≤ bodyOffset sheet 1
   pub last : bodyOffset sheet 1 ≤ length sheet
   pub alphabet : take (bodyOffset sheet 1 - 12) (drop 12 sheet) ≡ alphabetOf sheet
-  pub head : 4 ≤ length form
-  pub end : ruleOffset (ruleCount form) ≤ length form
-  pub call : sizeCall (alphabetOf sheet) (take (ruleOffset (ruleCount form)) form) 4096 ≡ sized 0 (sizeAnswer (sizeOf (sheetTree sheet)))
+  pub head : headLength ≤ length form
+  pub end : formLength (ruleCount form) ≤ length form
+  pub call : sizeSaid (alphabetOf sheet) (take (formLength (ruleCount form)) form) (countsPerRule * mostFormRules) ≡ answered (sizeAnswer (sizeOf (sheetTree sheet)))
 
 count-taken : (n : ℕ) (form : List ℕ) → 2 ≤ n → ruleCount (take n form) ≡ ruleCount form
 unfolding word
@@ -47,9 +48,9 @@ parts sheet form m =
     let here = form-passed (alphabetOf sheet) (take n form) (alphabet-passed (alphabetOf sheet) (passed .alphabet)) (m .formed .valid) in
     let all : length (take n form) ≡ n = length-take-le n form (m .within) in
     let count = count-taken n form (omega (arith, here .long)) in
-    let end : ruleOffset (ruleCount form) ≡ n = omega (arith, here .long, count, all) in
+    let end : formLength (ruleCount form) ≡ n = omega (arith, here .long, count, all) in
     let demand = form-meets sheet (m .passes) (take n form) (m .formed) in
-    let none = none-before (sizeRefusal (alphabetOf sheet) (take n form) 4096) _ (demand .unfolded 4096 (sizeOf (sheetTree sheet)) (omega (arith, here .few)) (omega arith)) .0 in
+    let none = none-before (sizeRefusal (alphabetOf sheet) (take n form) (countsPerRule * mostFormRules)) _ (demand .unfolded (countsPerRule * mostFormRules) (sizeOf (sheetTree sheet)) (omega (arith, here .few)) (omega arith)) .0 in
     record {
       long = passed .long;
       first = bodies .after-contents;
@@ -61,25 +62,25 @@ parts sheet form m =
     }
 
 -- an answer of size as a number
-abbrev numberOf : Size → ℕ
-numberOf (Refused n) = 0
-numberOf (Exact n) = n
-numberOf Over = largest
+abbrev numberOf : Answer Size → ℕ
+numberOf (refused n) = 0
+numberOf (answered (exact n)) = n
+numberOf (answered over) = largest
 
-capped-number : (s : ℕ) → numberOf (sized 0 (sizeAnswer s)) ≡ capped s
+capped-number : (s : ℕ) → numberOf (answered (sizeAnswer s)) ≡ capped s
 unfolding sizeAnswer
 capped-number s = go (ltb s largest) refl
   where
-    go : (b : Bool) → ltb s largest ≡ b → numberOf (sized 0 (cond b (count.exact s) count.over)) ≡ capped s
+    go : (b : Bool) → ltb s largest ≡ b → numberOf (answered (cond b (exact s) over)) ≡ capped s
     go true e = omega (arith, ltb-true s largest e)
     go false e = omega (arith, ltb-false s largest e)
 
-size-number : (s : ℕ) (r : Size) → sized 0 (sizeAnswer s) ≡ r → numberOf r ≡ capped s
-size-number s r e = subst (λ (x : Size). numberOf x ≡ capped s) e (capped-number s)
+size-number : (s : ℕ) (r : Answer Size) → answered (sizeAnswer s) ≡ r → numberOf r ≡ capped s
+size-number s r e = subst (λ (x : Answer Size). numberOf x ≡ capped s) e (capped-number s)
 
 -- the same for what the call was given
-pub size-is : (sheet form : List ℕ) → Parts sheet form → (rules end numbers : ℕ) (r : Size) {e : Size} → rules ≡ bodyOffset sheet 1 → end ≡ ruleOffset (ruleCount form) → numbers ≡ 4096
-    → r ≡ sizeCall (take (rules - 12) (drop 12 sheet)) (take end form) numbers → r ≡ e → numberOf e ≡ capped (sizeOf (sheetTree sheet))
+pub size-is : (sheet form : List ℕ) → Parts sheet form → (rules end numbers : ℕ) (r : Answer Size) {e : Answer Size} → rules ≡ bodyOffset sheet 1 → end ≡ formLength (ruleCount form) → numbers ≡ countsPerRule * mostFormRules
+    → r ≡ sizeSaid (take (rules - 12) (drop 12 sheet)) (take end form) numbers → r ≡ e → numberOf e ≡ capped (sizeOf (sheetTree sheet))
 size-is sheet form p rules end numbers r {e} here there many call is =
     let same = rw (here, there, many, p .alphabet, p .call) at call in
     size-number (sizeOf (sheetTree sheet)) e (sym same ∙ is)

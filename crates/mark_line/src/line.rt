@@ -1,23 +1,21 @@
 // What is said of a sheet: a refusal, or verdict, mask and size.
 use checks::bytes::word;
 use checks::limits::CONTENTS;
-use checks::limits::MOST_NODES;
-use counting::answer::Size;
-use counting::size::size;
+use counting::counts::COUNTS;
 use form_bytes::layout;
-use making::RULES_FOR_NODE;
 use marking::answer::Mark;
 use marking::mark::mark_sheet;
+use sheets::sheet::MOST_ASKED;
+use sizing::answer::Size;
+use sizing::size::size;
 ghost use mathlib.Core.Path.{_≡_};
 ghost use Rattle.terms.specs.Sheet.{sheetTree};
 ghost use Rattle.terms.specs.Count.{sizeOf, capped};
 ghost use Rattle.mark_line.specs.Private.MarkedForm.{MarkedForm};
-ghost use Rattle.mark_line.specs.Line.{lineOf};
+ghost use Rattle.mark_line.specs.Line.{answerOfLine, lineOf};
 
-// The most rules of the form of a sheet, and the length of such a form.
-const MOST_RULES: usize = RULES_FOR_NODE * MOST_NODES;
-
-const LONGEST_FORM: usize = layout::HEAD + layout::RULE * MOST_RULES;
+// The length of a form of the most rules that a form of a sheet may take.
+const LONGEST_FORM: usize = layout::HEAD + layout::RULE * MOST_ASKED;
 
 // The refusal, or the mask and the size, for which the largest number of 64 bits stands where it is over.
 pub enum Line {
@@ -32,8 +30,8 @@ fn size_of(sheet: &[u8], form: &[u8]) -> u64
     ensures { λ r. ⌜ r ≡ capped (sizeOf (sheetTree (now (sheet .entry)))) ⌝ }
 {
     let rules = word(sheet, 4);
-    let end = layout::HEAD + layout::RULE * layout::rule_count(form);
-    let mut counts = [0u64; 2 * MOST_RULES];
+    let end = layout::form_length(layout::rule_count(form));
+    let mut counts = [0u64; COUNTS * MOST_ASKED];
     match size(&sheet[CONTENTS..rules], &form[..end], &mut counts) {
         Size::Refused(_) => 0,
         Size::Exact(nodes) => nodes,
@@ -43,10 +41,10 @@ fn size_of(sheet: &[u8], form: &[u8]) -> u64
 
 // Marks a sheet, with room for the largest one.
 pub fn line_of(sheet: &[u8]) -> Line
-    ensures { λ r. ⌜ r ≡ lineOf (now (sheet .entry)) ⌝ }
+    ensures { λ r. ⌜ answerOfLine r ≡ lineOf (now (sheet .entry)) ⌝ }
 {
     let mut form = [0u8; LONGEST_FORM];
-    let mut relations = [0u64; MOST_RULES];
+    let mut relations = [0u64; MOST_ASKED];
     match mark_sheet(sheet, &mut form, &mut relations) {
         Mark::Refused(n) => Line::Refused(n),
         Mark::Accepted(mask) => Line::Accepted(mask, size_of(sheet, &form)),

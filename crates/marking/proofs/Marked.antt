@@ -1,13 +1,14 @@
 -- What marking a sheet answers and leaves, by what was read of it and by the lengths of the slices.
 use mathlib.Core.Path.{_≡_, refl, sym, ap, _∙_}
 use mathlib.Core.List.{List}
-use Prim.Native.Nat.{ℕ, zero, suc, _*_, _-_, _≤_, _<_}
+use Prim.Native.Nat.{ℕ, zero, suc, _-_, _≤_, _<_}
 use native.Mathlib.Omega.{arith}
 use borrow.Author.Tests.{lt-ltb, le-ltb}
 use lib.ListN.{length, take, drop}
 use Rattle.terms.specs.Tree.{preorder}
 use Rattle.terms.specs.Sheet.{alphabetOf, rulesOf, automatonOf, finals, Verdict, sheetTree, sheetMask, sheetVerdict}
-use Rattle.terms.specs.FormBytes.{ruleOffset}
+use Rattle.terms.specs.FormBytes.{formLength}
+use Rattle.terms.specs.Answer.{refused, answered, answer}
 use Rattle.terms.specs.Calls.{lentAfter, rulesAsked, sheetMarkingRefusal, makingRefusal, evaluationRefusal, relationsOf, formMask, walkMask}
 use Rattle.terms.specs.Demand.{FormOfSheet, Demand3}
 use Rattle.terms.proofs.Refusal.{is-first}
@@ -16,28 +17,27 @@ use Rattle.terms.proofs.Sheet.Automaton.{automaton-passed}
 use Rattle.terms.proofs.Sheet.Bodies.{joined}
 use Rattle.terms.proofs.Sheet.Passed.{sheet-passed}
 use Rattle.sheets.specs.declared.sheet.Layout.{Layout}
-use Rattle.making.specs.Making.{FormWritten}
-use Rattle.making.proofs.Formed.{form-of}
+use Rattle.making.specs.Making.{formOf}
+use Rattle.making.specs.Private.Read.{FormWritten}
+use Rattle.making.proofs.Formed.{form-of, written-first}
 use Rattle.making.proofs.SheetRead.{SheetRead, too-short, long-enough}
-use Rattle.marking.specs.declared.answer.Mark.{Mark}
-use Rattle.marking.specs.declared.answer.Mark.the-variants.{Refused}
-use Rattle.marking.specs.Marking.{orVerdict, SlicesLeft}
+use Rattle.marking.specs.Marking.{MarkAnswer, sheetMark, SlicesLeft}
 use Rattle.marking.specs.Private.Verdict.{verdictOn}
 
 -- The answer and the slices, by the refusal.
 
-module _ {refusal : ℕ} (sheet form relations : List ℕ) (verdict : Verdict) (mask : ℕ) where
+module _ {refusal : ℕ} (sheet form relations : List ℕ) (mark : Verdict × ℕ) where
   -- a refusal leaves the slices as they were
-  pub refuses : {n : ℕ} → n ≡ refusal → (n ≡ 0 → ⊥) → (Refused n ≡ orVerdict refusal verdict mask) × SlicesLeft refusal sheet form form relations relations
+  pub refuses : {n : ℕ} → n ≡ refusal → (n ≡ 0 → ⊥) → (_≡_ {A = MarkAnswer} (refused n) (answer refusal mark)) × SlicesLeft refusal sheet form form relations relations
   refuses e h = go refusal e h
     where
-      go : {n : ℕ} (m : ℕ) → n ≡ m → (n ≡ 0 → ⊥) → (Refused n ≡ orVerdict m verdict mask) × SlicesLeft m sheet form form relations relations
+      go : {n : ℕ} (m : ℕ) → n ≡ m → (n ≡ 0 → ⊥) → (_≡_ {A = MarkAnswer} (refused n) (answer m mark)) × SlicesLeft m sheet form form relations relations
       go zero e h = absurd (h e)
-      go (suc m) e h = (ap Refused e, record { written = 0; formed = refl; evaluated = refl })
+      go (suc m) e h = (ap refused e, record { formed = refl; evaluated = refl; made = λ z. absurd (omega arith) })
 
   -- what was found of one number holds of the refusal that it is
-  pub marks : {n : ℕ} {r : Mark} {form′ relations′ : List ℕ} → n ≡ refusal → r ≡ orVerdict n verdict mask → SlicesLeft n sheet form′ form relations′ relations
-      → (r ≡ orVerdict refusal verdict mask) × SlicesLeft refusal sheet form′ form relations′ relations
+  pub marks : {n : ℕ} {r : MarkAnswer} {form′ relations′ : List ℕ} → n ≡ refusal → r ≡ answer n mark → SlicesLeft n sheet form′ form relations′ relations
+      → (r ≡ answer refusal mark) × SlicesLeft refusal sheet form′ form relations′ relations
   marks e a l = rw (← e) (a, l)
 
 -- What marking refuses of a sheet.
@@ -49,16 +49,16 @@ module _ (s : List ℕ) (room numbers : ℕ) where
   not-made e h = is-first _ e h
 
 module _ {s : List ℕ} {l : Layout} (read : SheetRead s l) (room numbers : ℕ) where
-  pub form-short : room < ruleOffset (16 * l .nodes) → 17 ≡ sheetMarkingRefusal s room numbers
+  pub form-short : room < formLength (l .asked) → 17 ≡ sheetMarkingRefusal s room numbers
   form-short h = not-made s room numbers (too-short read room h) (λ e. omega arith)
 
-  pub numbers-short : ruleOffset (16 * l .nodes) ≤ room → numbers < 16 * l .nodes → 19 ≡ sheetMarkingRefusal s room numbers
+  pub numbers-short : formLength (l .asked) ≤ room → numbers < l .asked → 19 ≡ sheetMarkingRefusal s room numbers
   unfolding sheetMarkingRefusal
-  numbers-short h k = rw (sym (long-enough read room h), lt-ltb numbers (rulesAsked s) (rw (read .nodes) at k))
+  numbers-short h k = rw (sym (long-enough read room h), lt-ltb numbers (rulesAsked s) (rw (read .asked) at k))
 
-  pub none-short : ruleOffset (16 * l .nodes) ≤ room → 16 * l .nodes ≤ numbers → 0 ≡ sheetMarkingRefusal s room numbers
+  pub none-short : formLength (l .asked) ≤ room → l .asked ≤ numbers → 0 ≡ sheetMarkingRefusal s room numbers
   unfolding sheetMarkingRefusal
-  none-short h k = rw (sym (long-enough read room h), le-ltb numbers (rulesAsked s) (rw (read .nodes) at k))
+  none-short h k = rw (sym (long-enough read room h), le-ltb numbers (rulesAsked s) (rw (read .asked) at k))
 
 -- A sheet that was read.
 
@@ -76,23 +76,31 @@ module _ {s : List ℕ} {l : Layout} (read : SheetRead s l) where
 
   -- and its form is written
   module _ {n : ℕ} {exit entry : List ℕ} (w : FormWritten (alphabetOf s) (rulesOf s) n exit entry) where
-    formed : FormOfSheet s (take n exit)
-    formed = form-of s w
+    formed : FormOfSheet s (formOf s)
+    formed = form-of s (w .holds)
 
-    demand : Demand3 s (take n exit)
-    demand = form-meets s (read .passed) (take n exit) formed
+    demand : Demand3 s (formOf s)
+    demand = form-meets s (read .passed) (formOf s) formed
+
+    -- the first bytes of the slice are the form
+    first : take n exit ≡ formOf s
+    first = written-first (formOf s) entry (w .long) (w .bytes)
 
     module _ {alphabet automaton : List ℕ} (a : alphabet ≡ alphabetOf s) (b : automaton ≡ automatonOf s) where
-      pub evaluable : (numbers : ℕ) → 16 * l .nodes ≤ numbers → evaluationRefusal alphabet automaton (take n exit) numbers ≡ 0
-      evaluable numbers h = rw (a, b) (demand .evaluated numbers (omega (arith, formed .few, read .nodes)))
+      pub evaluable : (numbers : ℕ) → l .asked ≤ numbers → evaluationRefusal alphabet automaton (take n exit) numbers ≡ 0
+      evaluable numbers h = rw (a, b, first) (demand .evaluated numbers (omega (arith, formed .few, read .asked)))
 
       -- the answer
-      pub verdict-is : {r : Mark} {m : ℕ} → m ≡ formMask alphabet automaton (take n exit) → r ≡ verdictOn m (finals automaton)
-          → r ≡ orVerdict 0 (sheetVerdict s) (sheetMask s)
+      pub verdict-is : {r : MarkAnswer} {m : ℕ} → m ≡ formMask alphabet automaton (take n exit) → r ≡ answered (verdictOn m (finals automaton), m)
+          → r ≡ answered (sheetMark s)
       unfolding sheetVerdict
-      verdict-is m e = e ∙ rw (m, a, b, ← demand .same, walked)
+      verdict-is m e = e ∙ rw (m, a, b, first, ← demand .same, walked)
 
       -- and the slices
       pub slices-left : (relations : List ℕ) {relations′ : List ℕ} → relations′ ≡ lentAfter 0 (relationsOf alphabet automaton (take n exit)) relations
           → SlicesLeft 0 s exit entry relations′ relations
-      slices-left relations e = record { written = n; formed = w; evaluated = rw (a, b) at e }
+      slices-left relations e = record {
+        formed = w .bytes;
+        evaluated = rw (a, b, first) at e;
+        made = λ z. record { holds = w .holds; within = omega (arith, w .long, w .within) };
+      }

@@ -9,7 +9,9 @@ use Rattle.terms.specs.Automaton.{bit, has, setOf}
 use Rattle.terms.proofs.Test.{of-true, some-in, some-cong}
 use Rattle.terms.proofs.Automaton.Bits.{set-cong, set-whole}
 use Rattle.relations.proofs.Laws.{has-and}
-use Rattle.marking.specs.declared.answer.Mark.the-variants.{Accepted, Declined}
+use Rattle.terms.specs.Answer.{answered}
+use Rattle.terms.specs.Sheet.{accepted, declined}
+use Rattle.marking.specs.Marking.{MarkAnswer}
 use Rattle.marking.specs.Private.Verdict.{verdictOn}
 
 none-in : (n : ℕ) (f : ℕ → Bool) → some n f ≡ false → (q : ℕ) → q < n → f q ≡ false
@@ -43,8 +45,8 @@ module _ (m f : ℕ) where
       go false e = absurd (k (no-bit (bitAnd m f) (omega (arith, and-le-l m f)) e))
 
   -- the verdict
-  pub declines : bitAnd m f ≡ 0 → Declined m ≡ verdictOn m f
+  pub declines : bitAnd m f ≡ 0 → _≡_ {A = MarkAnswer} (answered (declined, m)) (answered (verdictOn m f, m))
   declines e = rw (none-shared e)
 
-  pub accepts : m < 2 ^ 8 → (bitAnd m f ≡ 0 → ⊥) → Accepted m ≡ verdictOn m f
+  pub accepts : m < 2 ^ 8 → (bitAnd m f ≡ 0 → ⊥) → _≡_ {A = MarkAnswer} (answered (accepted, m)) (answered (verdictOn m f, m))
   accepts h k = rw (some-shared h k)

@@ -1,33 +1,33 @@
 -- What marking answers, and how it leaves the slices (document 01, "Size, label, wrap, tally, program").
 use mathlib.Core.Path.{_≡_}
 use mathlib.Core.List.{List}
-use Prim.Native.Nat.{ℕ, zero, suc}
-use lib.ListN.{take}
-use Rattle.terms.specs.Sheet.{alphabetOf, rulesOf, automatonOf, Verdict, accepted, declined, sheetMask, sheetVerdict}
-use Rattle.terms.specs.Calls.{lentAfter, sheetMarkingRefusal, relationsOf}
-use Rattle.making.specs.Making.{FormWritten}
+use Prim.Native.Nat.{ℕ}
+use lib.ListN.{length}
+use Rattle.terms.specs.Sheet.{alphabetOf, automatonOf, Verdict, accepted, declined, sheetMask, sheetVerdict}
+use Rattle.terms.specs.Answer.{Answer, refused, answered}
+use Rattle.terms.specs.Calls.{lentAfter, relationsOf}
+use Rattle.making.specs.Making.{formOf, FormMade}
 use Rattle.marking.specs.declared.answer.Mark.{Mark}
 use Rattle.marking.specs.declared.answer.Mark.the-variants.{Refused, Accepted, Declined}
 
--- a refusal, or the verdict with the mask where there is none (01 Refusals)
-abbrev pub orVerdict : ℕ → Verdict → ℕ → Mark
-orVerdict zero accepted mask = Accepted mask
-orVerdict zero declined mask = Declined mask
-orVerdict (suc n) verdict mask = Refused (suc n)
+-- what marking answers: a refusal, or a verdict with its mask (01 Size, label, wrap, tally)
+abbrev pub MarkAnswer : Type 0
+MarkAnswer = Answer (Verdict × ℕ)
 
--- marking a sheet with so many form bytes and numbers lent (01 Refusals)
-abbrev pub markOf : List ℕ → ℕ → ℕ → Mark
-markOf sheet room numbers = orVerdict (sheetMarkingRefusal sheet room numbers) (sheetVerdict sheet) (sheetMask sheet)
+-- a verdict with its mask, for each case (01 Size, label, wrap, tally)
+abbrev pub answerOfMark : Mark → MarkAnswer
+answerOfMark (Refused n) = refused n
+answerOfMark (Accepted mask) = answered (accepted, mask)
+answerOfMark (Declined mask) = answered (declined, mask)
+
+-- what is said of a sheet: its verdict and its mask (01 Derived tree and run)
+abbrev pub sheetMark : List ℕ → Verdict × ℕ
+sheetMark sheet = (sheetVerdict sheet, sheetMask sheet)
 
 -- Lent slices.
 
--- the form's slice after marking: as it was where it refuses, else with a form of the sheet in so many bytes (01 Size, label, wrap, tally)
-abbrev pub FormLeft : ℕ → List ℕ → ℕ → List ℕ → List ℕ → Type 0
-FormLeft zero sheet written exit entry = FormWritten (alphabetOf sheet) (rulesOf sheet) written exit entry
-FormLeft (suc n) sheet written exit entry = exit ≡ entry
-
--- both slices after marking: as form making, which writes so many bytes, and evaluation of those bytes leave them (01 Size, label, wrap, tally)
+-- both slices after marking: as form making and evaluation of the form leave them, and what holds of the form (01 Size, label, wrap, tally)
 pub record SlicesLeft (refusal : ℕ) (sheet form′ form relations′ relations : List ℕ) : Type 0 where
-  pub written : ℕ
-  pub formed : FormLeft refusal sheet written form′ form
-  pub evaluated : relations′ ≡ lentAfter refusal (relationsOf (alphabetOf sheet) (automatonOf sheet) (take written form′)) relations
+  pub formed : form′ ≡ lentAfter refusal (formOf sheet) form
+  pub evaluated : relations′ ≡ lentAfter refusal (relationsOf (alphabetOf sheet) (automatonOf sheet) (formOf sheet)) relations
+  pub made : refusal ≡ 0 → FormMade sheet (length form)

@@ -4,24 +4,24 @@ use checks::limits::CONTENTS;
 use evaluation::evaluate::evaluate_checked;
 use form_bytes::layout::HEAD;
 use form_bytes::layout::RULE;
-use making::RULES_FOR_NODE;
 use making::make_read;
 use sheets::sheet::Layout;
 use sheets::sheet::Reading;
 use sheets::sheet::read_sheet;
 ghost use mathlib.Core.Path.{_≡_};
-ghost use Prim.Native.Nat.{_*_, _≤_};
+ghost use Prim.Native.Nat.{_≤_};
 ghost use lib.ListN.{length};
-ghost use Rattle.terms.specs.Sheet.{finals, sheetMask, sheetVerdict};
+ghost use Rattle.terms.specs.Sheet.{finals};
+ghost use Rattle.terms.specs.Answer.{answered, answer};
 ghost use Rattle.terms.specs.Calls.{sheetMarkingRefusal};
 ghost use Rattle.making.specs.Private.Read.{ReadWithRoom};
-ghost use Rattle.marking.specs.Marking.{orVerdict, markOf, SlicesLeft};
+ghost use Rattle.marking.specs.Marking.{answerOfMark, sheetMark, SlicesLeft};
 ghost use Rattle.marking.specs.Private.Verdict.{verdictOn};
 
 // The verdict of a mask: accepted where it shares a state with the final states.
 fn verdict(automaton: &[u8], mask: u8) -> Mark
     requires { ⌜ 2 ≤ length (now automaton) ⌝ }
-    ensures { λ r. ⌜ r ≡ verdictOn mask (finals (now (automaton .entry))) ⌝ }
+    ensures { λ r. ⌜ answerOfMark r ≡ answered (verdictOn mask (finals (now (automaton .entry))), mask) ⌝ }
 {
     if mask & automaton[1] == 0 {
         return Mark::Declined(mask);
@@ -31,8 +31,8 @@ fn verdict(automaton: &[u8], mask: u8) -> Mark
 
 // Marks a sheet that was read, into slices with room for its form and its relations.
 fn mark_read(sheet: &[u8], layout: Layout, form: &mut [u8], relations: &mut [u64]) -> Mark
-    requires { ⌜ ReadWithRoom (now sheet) layout (length (now form)) × (16 * layout .nodes ≤ length (now relations)) ⌝ }
-    ensures { λ r. ⌜ r ≡ orVerdict 0 (sheetVerdict (now (sheet .entry))) (sheetMask (now (sheet .entry))) ⌝ }
+    requires { ⌜ ReadWithRoom (now sheet) layout (length (now form)) × (layout .asked ≤ length (now relations)) ⌝ }
+    ensures { λ r. ⌜ answerOfMark r ≡ answered (sheetMark (now (sheet .entry))) ⌝ }
     ensures { λ _. ⌜ SlicesLeft 0 (now (sheet .entry)) (now (form .exit)) (now (form .entry)) (now (relations .exit)) (now (relations .entry)) ⌝ }
 {
     let rules = CONTENTS + layout.terminals;
@@ -50,17 +50,16 @@ fn mark_read(sheet: &[u8], layout: Layout, form: &mut [u8], relations: &mut [u64
 // Marks a sheet without a tally: refused by 1 to 16 for the sheet, 17 for the form's slice, 19 for the slice of numbers. The slices end as form making and
 // evaluation leave them.
 pub fn mark_sheet(sheet: &[u8], form: &mut [u8], relations: &mut [u64]) -> Mark
-    ensures { λ r. ⌜ r ≡ markOf (now (sheet .entry)) (length (now (form .entry))) (length (now (relations .entry))) ⌝ }
+    ensures { λ r. ⌜ answerOfMark r ≡ answer (sheetMarkingRefusal (now (sheet .entry)) (length (now (form .entry))) (length (now (relations .entry)))) (sheetMark (now (sheet .entry))) ⌝ }
     ensures { λ _. ⌜ SlicesLeft (sheetMarkingRefusal (now (sheet .entry)) (length (now (form .entry))) (length (now (relations .entry)))) (now (sheet .entry)) (now (form .exit)) (now (form .entry)) (now (relations .exit)) (now (relations .entry)) ⌝ }
 {
     match read_sheet(sheet) {
         Reading::Refused(n) => Mark::Refused(n),
         Reading::Sheet(layout) => {
-            let asked = RULES_FOR_NODE * layout.nodes;
-            if form.len() < HEAD + RULE * asked {
+            if form.len() < HEAD + RULE * layout.asked {
                 return Mark::Refused(17);
             }
-            if relations.len() < asked {
+            if relations.len() < layout.asked {
                 return Mark::Refused(19);
             }
             mark_read(sheet, layout, form, relations)

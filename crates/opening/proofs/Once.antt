@@ -2,17 +2,17 @@
 use mathlib.Core.Path.{_≡_, refl}
 use mathlib.Core.Bool.{Bool, true, false}
 use mathlib.Core.List.{List}
-use Prim.Native.Nat.{ℕ, zero, suc, _+_}
+use Prim.Native.Nat.{ℕ, zero, suc, _+_, _<_}
+use native.Mathlib.Omega.{arith}
 use lib.Dec.{leb, ltb}
 use lib.ListN.{length}
 use denote.Ref.{RefT, now}
 use borrow.Author.Tests.{leb-false, le-ltb}
 use Rattle.terms.specs.Refusal.{_when_, orElse}
-use Rattle.terms.specs.FormBytes.{ruleCount, ruleOffset}
+use Rattle.terms.specs.FormBytes.{formLength, ruleCount}
 use Rattle.terms.specs.Calls.{openingRefusal, readingRefusal}
-use Rattle.forms.specs.Reading.{ruleReading}
-use Rattle.forms.proofs.Rules.{opening-passed}
-use Rattle.forms.proofs.Rules.{rule-whole}
+use Rattle.opening.specs.Reading.{ruleReading}
+use Rattle.forms.proofs.Rules.{passed, opening-passed}
 use Rattle.opening.specs.declared.OpenForm.{OpenForm}
 use Rattle.opening.specs.Opening.{openedRules, openedReading}
 
@@ -23,10 +23,11 @@ one-row false c h = rw (h refl)
 
 module _ (alphabet form : List ℕ) (i : ℕ) where
   -- where the form opens, a rule of a number below R stands whole in its bytes
-  stands : openingRefusal alphabet form ≡ 0 → leb (ruleCount form) i ≡ false → ltb (length form) (ruleOffset i + 12) ≡ false
+  stands : openingRefusal alphabet form ≡ 0 → leb (ruleCount form) i ≡ false → ltb (length form) (formLength (i + 1)) ≡ false
   stands e b =
       let (a, f) = opening-passed alphabet form e in
-      le-ltb _ _ (rule-whole alphabet form a f i (leb-false _ _ b))
+      let low : i < ruleCount form = leb-false (ruleCount form) i b in
+      le-ltb (length form) (formLength (i + 1)) (omega (arith, passed alphabet form a f .long))
 
   by-refusal : (refusal : ℕ) → openingRefusal alphabet form ≡ refusal → openedReading form (openedRules form refusal) refusal i ≡ ruleReading alphabet form i
   unfolding ruleReading readingRefusal

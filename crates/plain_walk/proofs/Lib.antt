@@ -2,5 +2,4 @@ pub mod Trees
 pub mod Passed
 pub mod Noted
 pub mod Reading
-pub mod Runs
 pub mod Outcome

@@ -19,14 +19,6 @@ mask-at : (alphabet automaton tree : List ℕ) (i : ℕ) → i < length tree →
 unfolding walkMasks
 mask-at alphabet automaton tree i h = getD-tabulate (length tree) (λ j. walkMask alphabet automaton (drop j tree)) 0 i h
 
--- a position stands before another or not
-split : {P : Type 0} (i n : ℕ) → (i < n → P) → (n ≤ i → P) → P
-split {P} i n before behind = go (decLt i n)
-  where
-    go : Dec (i < n) → P
-    go (yes b) = before b
-    go (no b) = behind (omega arith)
-
 -- what stands behind the first n of a list is kept where they are replaced
 kept-behind : (ms l : List ℕ) (n i : ℕ) → length ms ≡ n → n ≤ i → getD (ms ++ drop n l) i 0 ≡ getD l i 0
 kept-behind ms l n i e h =
@@ -38,21 +30,18 @@ module _ {alphabet automaton tree : List ℕ} where
   pub noted-none : (at : ℕ) (l : List ℕ) → Noted alphabet automaton tree at at l l
   noted-none at l = record { front = λ i h. refl; inside = λ i h k. absurd (omega arith); behind = λ i h. refl }
 
-  -- the subtrees up to a middle and those behind it, in either order
-  module _ {at middle end : ℕ} {l l′ l″ : List ℕ} (from : at ≤ middle) (to : middle ≤ end) where
-    pub noted-more : Noted alphabet automaton tree at middle l l′ → Noted alphabet automaton tree middle end l′ l″ → Noted alphabet automaton tree at end l l″
-    noted-more first next = record {
-      front = λ i h. next .front i (omega arith) ∙ first .front i h;
-      inside = λ i h k. split i middle (λ b. next .front i b ∙ first .inside i h b) (λ b. next .inside i b k);
-      behind = λ i h. next .behind i h ∙ first .behind i (omega arith);
-    }
-
-    pub noted-above : Noted alphabet automaton tree middle end l l′ → Noted alphabet automaton tree at middle l′ l″ → Noted alphabet automaton tree at end l l″
-    noted-above first next = record {
-      front = λ i h. next .front i h ∙ first .front i (omega arith);
-      inside = λ i h k. split i middle (λ b. next .inside i h b) (λ b. next .behind i b ∙ first .inside i b k);
-      behind = λ i h. next .behind i (omega arith) ∙ first .behind i h;
-    }
+  -- the subtrees up to a middle, and then those behind it
+  pub noted-more : {at middle end : ℕ} {l l′ l″ : List ℕ} → at ≤ middle → middle ≤ end
+      → Noted alphabet automaton tree at middle l l′ → Noted alphabet automaton tree middle end l′ l″ → Noted alphabet automaton tree at end l l″
+  noted-more {at} {middle} {end} {l} {l′} {l″} from to first next = record {
+    front = λ i h. next .front i (omega arith) ∙ first .front i h;
+    inside = λ i h k. go i h k (decLt i middle);
+    behind = λ i h. next .behind i h ∙ first .behind i (omega arith);
+  }
+    where
+      go : (i : ℕ) → at ≤ i → i < end → Dec (i < middle) → getD l″ i 0 ≡ walkMask alphabet automaton (drop i tree)
+      go i h k (yes b) = next .front i b ∙ first .inside i h b
+      go i h k (no b) = next .inside i (omega arith) k
 
   -- a node, once its children are noted
   pub noted-node : {at end m : ℕ} {l l′ : List ℕ} → at < length l′ → at < end → m ≡ walkMask alphabet automaton (drop at tree) → Noted alphabet automaton tree (at + 1) end l l′ → Noted alphabet automaton tree at end l (set l′ at m)

@@ -1,48 +1,38 @@
 -- A tree that was wrapped, made a form and unfolded is the tree given.
 use mathlib.Core.Path.{_≡_, refl, ap, subst, _∙_}
 use mathlib.Core.List.{List}
-use Prim.Native.Nat.{ℕ, _+_, _*_, _≤_}
+use Prim.Native.Nat.{ℕ, _*_, _≤_}
 use native.Mathlib.Omega.{arith}
 use lib.ListN.{length, take}
 use lib.Seq.{take-append-seam}
 use Rattle.terms.specs.Tree.{preorder}
-use Rattle.terms.specs.Sheet.{nodesOf, sheetTree, wrapped}
-use Rattle.terms.specs.FormBytes.{ruleCount, formTree}
-use Rattle.terms.specs.Calls.{makingRefusal, unfoldingRefusal, wrapRefusal}
+use Rattle.terms.specs.Sheet.{sheetTree, wrapped}
+use Rattle.terms.specs.FormBytes.{ruleCount, formLength, formTree}
+use Rattle.terms.specs.Answer.{Answer, refused, answered, answer, answerOfLength}
+use Rattle.terms.specs.Calls.{rulesAsked, countsPerRule, unfoldingRefusal, wrapRefusal}
 use Rattle.terms.specs.Demand.{FormOfSheet, Demand3}
 use Rattle.terms.proofs.Demand.{making-passes, form-meets}
 use Rattle.terms.proofs.Sheet.Wrap.{Wrapped, wrap-right}
-use Rattle.wrapping.specs.Wrap.{wrappingAfter}
-use Rattle.wrapping.specs.declared.wrap.Wrapping.{Wrapping}
-use Rattle.wrapping.specs.declared.wrap.Wrapping.the-variants as wrap
-use Rattle.making.specs.Making.{refusalOf, Leaves}
-use Rattle.making.specs.declared.Making.{Making}
-use Rattle.making.specs.declared.Making.the-variants as making
-use Rattle.making.proofs.Formed.{form-of}
-use Rattle.unfolding.specs.declared.unfold.Unfolding.the-variants.{Written}
+use Rattle.making.specs.Making.{Makes}
+use Rattle.making.proofs.Formed.{wrote, none-refused}
 use Rattle.unfolding.specs.Unfolding.{Unfolded}
 use Rattle.restoring.specs.Restore.{MadeFrom, UnfoldedFrom, RestoringSlices, RestoringCalls, TreeBack}
 use Rattle.restoring.specs.declared.restore.Restoring.{Restoring}
 use Rattle.unfolding.proofs.Unfolded.{unfolds, tree-first}
 
 module _ (alphabet tree automaton : List ℕ) (r : Restoring) (lent left : RestoringSlices) (passes : wrapRefusal alphabet tree automaton (length (lent .sheet)) ≡ 0)
-    (room : 4 + 192 * length tree ≤ length (lent .form)) where
+    (room : formLength (rulesAsked (wrapped alphabet tree automaton)) ≤ length (lent .form)) where
   abbrev sheet : List ℕ
   sheet = wrapped alphabet tree automaton
 
   is : Wrapped alphabet tree automaton
   is = wrap-right alphabet tree automaton (length (lent .sheet)) passes
 
-  -- the one rule has the tree's nodes
-  nodes : nodesOf sheet ≡ length tree
-  unfolding nodesOf
-  nodes = rw (is .rule-given) (omega arith)
-
   size : length (preorder (sheetTree sheet)) ≡ length tree
   size = ap length (is .tree-given)
 
   module _ (n : ℕ) (formed : FormOfSheet sheet (take n (left .form)))
-      (u : Unfolded alphabet (take n (left .form)) (r .unfolded) (left .counts) (lent .counts) (left .tree) (lent .tree)) where
+      (u : Unfolded alphabet (take n (left .form)) (answerOfLength (r .unfolded)) (left .counts) (lent .counts) (left .tree) (lent .tree)) where
     abbrev form : List ℕ
     form = take n (left .form)
 
@@ -52,26 +42,26 @@ module _ (alphabet tree automaton : List ℕ) (r : Restoring) (lent left : Resto
     derives : formTree alphabet form ≡ sheetTree sheet
     derives = rw (is .alphabet-given) at (formed .tree)
 
-    module _ (counts : 2 * ruleCount form ≤ length (lent .counts)) (long : length tree ≤ length (lent .tree)) where
+    module _ (counts : countsPerRule * ruleCount form ≤ length (lent .counts)) (long : length tree ≤ length (lent .tree)) where
       unfolding-passes : unfoldingRefusal alphabet form (length (lent .counts)) (length (lent .tree)) ≡ 0
       unfolding-passes = rw (is .alphabet-given) at (demand .unfolded (length (lent .counts)) (length (lent .tree)) counts (omega (arith, size)))
 
-      nodes-written : r .unfolded ≡ Written (length tree)
-      nodes-written = unfolds u (sheetTree sheet) derives unfolding-passes ∙ ap Written size
+      nodes-written : answerOfLength (r .unfolded) ≡ answered (length tree)
+      nodes-written = unfolds u (sheetTree sheet) derives unfolding-passes ∙ ap answered size
 
       tree-written : take (length tree) (left .tree) ≡ tree
       tree-written = rw (← size) (tree-first u (sheetTree sheet) derives unfolding-passes ∙ is .tree-given)
 
-  by-answer : (m : Making) → r .made ≡ m → refusalOf m ≡ makingRefusal sheet (length (lent .form)) → Leaves sheet m (left .form) (lent .form)
-      → UnfoldedFrom alphabet m (left .form) (r .unfolded) (left .counts) (lent .counts) (left .tree) (lent .tree) → TreeBack tree r lent left
-  by-answer (making.Refused n) e q l u = absurd (omega (arith, q, l .0, making-passes sheet (is .passes) (length (lent .form)) (omega (arith, nodes))))
-  by-answer (making.Written n) e q l u =
-      let formed = form-of sheet l in
+  by-answer : (m : Answer ℕ) → answerOfLength (r .made) ≡ m → Makes sheet m (left .form) (lent .form)
+      → UnfoldedFrom alphabet m (left .form) (answerOfLength (r .unfolded)) (left .counts) (lent .counts) (left .tree) (lent .tree) → TreeBack tree r lent left
+  by-answer (refused n) e k u = absurd (none-refused k refl (making-passes sheet (is .passes) (length (lent .form)) room))
+  by-answer (answered n) e k u =
+      let formed = wrote k refl .formed in
       record { written = n; made = e; back = λ h k. (nodes-written n formed u h k, tree-written n formed u h k) }
 
   pub calls-restore : RestoringCalls alphabet tree automaton r lent left → TreeBack tree r lent left
   calls-restore c =
-      let w : r .wrapped ≡ wrap.Written (length sheet) = c .wraps ∙ ap (λ z. wrappingAfter z (length sheet)) passes in
+      let w : answerOfLength (r .wrapped) ≡ answered (length sheet) = c .wraps ∙ ap (λ (z : ℕ). answer z (length sheet)) passes in
       let s : take (length sheet) (left .sheet) ≡ sheet = rw (c .writes, passes) (take-append-seam sheet _) in
-      let m = rw s at (subst (λ (x : Wrapping). MadeFrom x (left .sheet) (r .made) (left .form) (lent .form)) w (c .makes)) in
-      by-answer (r .made) refl (m .0) (m .1) (c .unfolds)
+      let m = rw s at (subst (λ (x : Answer ℕ). MadeFrom x (left .sheet) (answerOfLength (r .made)) (left .form) (lent .form)) w (c .makes)) in
+      by-answer (answerOfLength (r .made)) refl m (c .unfolds)

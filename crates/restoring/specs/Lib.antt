@@ -1,2 +1,1 @@
 pub mod Restore
-pub mod Private

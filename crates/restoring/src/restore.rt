@@ -1,46 +1,45 @@
 // A tree wrapped into a sheet, the form of what was written, and that form unfolded: the tree comes back.
-use making::Making;
 use making::make_form;
-use unfolding::unfold::Unfolding;
+use terms::answers::LengthAnswer;
 use unfolding::unfold::unfold;
-use wrapping::wrap::Wrapping;
 use wrapping::wrap::wrap;
 ghost use lib.ListN.{length};
-ghost use Rattle.restoring.specs.Private.Within.{SheetWithin, FormWithin};
+ghost use Rattle.terms.specs.Answer.{answerOfLength};
+ghost use Rattle.terms.specs.Private.Within.{Within};
 ghost use Rattle.restoring.specs.Restore.{MadeFrom, UnfoldedFrom, restoringSlices, RestoringCalls, Restored};
 
 // What the three calls answer.
 pub struct Restoring {
-    pub wrapped: Wrapping,
-    pub made: Making,
-    pub unfolded: Unfolding,
+    pub wrapped: LengthAnswer,
+    pub made: LengthAnswer,
+    pub unfolded: LengthAnswer,
 }
 
 // The form of the sheet that was wrapped; a refusal is handed on.
-fn make_wrapped(wrapped: Wrapping, sheet: &[u8], form: &mut [u8]) -> Making
-    requires { ⌜ SheetWithin wrapped (length (now sheet)) ⌝ }
-    ensures { λ r. ⌜ MadeFrom wrapped (now (sheet .entry)) r (now (form .exit)) (now (form .entry)) ⌝ }
+fn make_wrapped(wrapped: LengthAnswer, sheet: &[u8], form: &mut [u8]) -> LengthAnswer
+    requires { ⌜ Within (answerOfLength wrapped) (length (now sheet)) ⌝ }
+    ensures { λ r. ⌜ MadeFrom (answerOfLength wrapped) (now (sheet .entry)) (answerOfLength r) (now (form .exit)) (now (form .entry)) ⌝ }
 {
     match wrapped {
-        Wrapping::Refused(n) => Making::Refused(n),
-        Wrapping::Written(n) => make_form(&sheet[..n], form),
+        LengthAnswer::Refused(n) => LengthAnswer::Refused(n),
+        LengthAnswer::Written(n) => make_form(&sheet[..n], form),
     }
 }
 
 // The tree of the form that was made; a refusal is handed on.
 fn unfold_made(
     alphabet: &[u8],
-    made: Making,
+    made: LengthAnswer,
     form: &[u8],
     counts: &mut [u64],
     tree: &mut [u8],
-) -> Unfolding
-    requires { ⌜ FormWithin made (length (now form)) ⌝ }
-    ensures { λ r. ⌜ UnfoldedFrom (now (alphabet .entry)) made (now (form .entry)) r (now (counts .exit)) (now (counts .entry)) (now (tree .exit)) (now (tree .entry)) ⌝ }
+) -> LengthAnswer
+    requires { ⌜ Within (answerOfLength made) (length (now form)) ⌝ }
+    ensures { λ r. ⌜ UnfoldedFrom (now (alphabet .entry)) (answerOfLength made) (now (form .entry)) (answerOfLength r) (now (counts .exit)) (now (counts .entry)) (now (tree .exit)) (now (tree .entry)) ⌝ }
 {
     match made {
-        Making::Refused(n) => Unfolding::Refused(n),
-        Making::Written(n) => unfold(alphabet, &form[..n], counts, tree),
+        LengthAnswer::Refused(n) => LengthAnswer::Refused(n),
+        LengthAnswer::Written(n) => unfold(alphabet, &form[..n], counts, tree),
     }
 }
 

@@ -1,68 +1,66 @@
--- The rules one after another: the form holds what the model makes of the first rules, and their cells represent the model's skeletons.
+-- The rules one after another: the table holds what the model makes of the first rules, and their cells represent the model's skeletons.
 use mathlib.Core.Path.{_≡_, refl, sym, subst, ap, _∙_}
 use mathlib.Core.List.{List, [], _∷_}
-use Prim.Native.Nat.{ℕ, zero, suc, _+_, _*_, _-_, _≤_, _<_}
+use Prim.Native.Nat.{ℕ, suc, _+_, _*_, _-_, _≤_, _<_}
 use native.Mathlib.Omega.{arith}
 use borrow.Author.Count.{below-more}
-use lib.ListN.{length, getD, drop, set, replicate, length-drop, length-set}
-use lib.Seq.{drop-cons, getD-set-same, getD-set-other, length-take-le}
-use Rattle.terms.specs.Grammar.{Rule, ruleAt, ruleRank, rankIn}
+use lib.ListN.{length, getD, drop, set, length-set}
+use lib.Seq.{drop-cons, getD-set-same, getD-set-other}
+use Rattle.terms.specs.Grammar.{Rule, ruleRank, rankIn, sumRules}
+use Rattle.terms.specs.Form.{formBound}
+use Rattle.terms.specs.declared.Rule.{Rule as Number}
 use Rattle.terms.specs.Sheet.{rulesBody}
 use Rattle.terms.specs.Check.{mostRules}
-use Rattle.terms.specs.FormBytes.{ruleOffset}
+use Rattle.terms.specs.FormBytes.{ruleLength}
 use Rattle.terms.proofs.Sheet.Passed.{alphabet-passed}
 use Rattle.terms.proofs.Form.Bytes.{rank-le}
 use Rattle.skeletons.specs.Skeleton.{param, shut, nth}
 use Rattle.skeletons.specs.Make.{Form, skeletonOf}
 use Rattle.skeletons.specs.Scan.{scan, scanned}
-use Rattle.skeletons.proofs.Result.{scanned-form}
-use Rattle.grammars.proofs.Body.{nodesAt, behind, ruleThere, opened, Passed, none-passed, rule-passed}
+use Rattle.skeletons.proofs.Result.{scanned-form, bound-linear}
+use Rattle.grammars.specs.Cursor.{spanAt, ruleIn}
+use Rattle.grammars.specs.declared.cursor.Span.{Span}
+use Rattle.grammars.proofs.Body.{nodes-long, Standing, standing, inside-body, Passed, none-passed, rule-passed}
 use Rattle.cells.specs.Bytes.{Holds}
-use Rattle.cells.specs.Cells.{mostCells, spaceLength, field, Stands}
+use Rattle.cells.specs.Cells.{mostCells, spaceLength, Stands, closedAt, Parameters}
 use Rattle.cells.specs.State.{Room, Grown, Stood}
-use Rattle.right_sides.specs.Side.{Known, RightSide, SideMade}
-use Rattle.right_sides.specs.Rules.{Parameters, Grammar, modelOf, RulesMade}
+use Rattle.right_sides.specs.Side.{Known, sideBound, RightSide, SideMade}
+use Rattle.right_sides.specs.Rules.{Grammar, modelOf, RulesMade}
 use Rattle.cells.specs.declared.state.Free.{Free}
 use Rattle.cells.specs.declared.state.Made.{Made}
 use Rattle.cells.proofs.Held.{held-none}
+use Rattle.cells.proofs.Reading.{closed-rule-is}
 use Rattle.cells.proofs.Adding.{grown-stands}
 use Rattle.right_sides.proofs.Lower.{old-skeleton, new-skeleton, lower-bounded, lower-light}
 
--- the cells of the parameters
-pub first-cells : {space : List ℕ} → space ≡ replicate spaceLength 0 → Parameters (set (set (set space 8 1) 15 2) 22 3)
-first-cells e = rw e record { all = refl; parameters = each }
-  where
-    each : (j : ℕ) → j < 4 → Stands (set (set (set (replicate spaceLength 0) 8 1) 15 2) 22 3) j (param j)
-    each zero h = (refl, refl)
-    each (suc zero) h = (refl, refl)
-    each (suc (suc zero)) h = (refl, refl)
-    each (suc (suc (suc zero))) h = (refl, refl)
-    each (suc (suc (suc (suc j)))) h = absurd (omega arith)
-
-module _ {form₀ alphabet body : List ℕ} {count : ℕ} (g : Grammar form₀ alphabet body count) where
+module _ {table₀ alphabet body : List ℕ} {count : ℕ} (g : Grammar table₀ alphabet body count) where
   abbrev rules : List Rule
   rules = rulesBody body .rules
 
   abbrev made : ℕ → Form
   made i = scanned alphabet rules i
 
+  -- how many rules a right side may add
+  abbrev bound : Rule → ℕ
+  bound r = sideBound rules (r .nodes)
+
   -- the first i rules are made, and the next one's bytes start at a place
-  pub record Making (at i : ℕ) (form space : List ℕ) (free : Free) (ranks roots : List ℕ) : Type 0 where
+  pub record Making (at i : ℕ) (table space : List ℕ) (free : Free) (ranks roots : List ℕ) : Type 0 where
     pub nodes : ℕ
     pub passed : Passed body at i nodes
     pub rest : drop i rules ≡ rulesBody (drop at body) .rules
     pub ranked : length ranks ≡ mostRules
     pub known : Known space free ranks roots rules i (skeletonOf (made i))
-    pub held : Holds form (made i .rules)
+    pub held : Holds table (made i .rules)
     pub counted : free .rule .0 ≡ length (made i .rules)
-    pub few-rules : free .rule .0 ≤ 16 * nodes
+    pub few-rules : free .rule .0 + sumRules bound (drop i rules) ≤ formBound rules
     pub few-cells : free .cell ≤ 4 + 4 * nodes
     pub all : length space ≡ spaceLength
-    pub long : length form ≡ length form₀
-    pub kept : (k : ℕ) → ruleOffset (free .rule .0) ≤ k → getD form k 0 ≡ getD form₀ k 0
+    pub long : length table ≡ length table₀
+    pub kept : (k : ℕ) → ruleLength * free .rule .0 ≤ k → getD table k 0 ≡ getD table₀ k 0
 
   pub none-made : {space : List ℕ} {free : Free} {ranks roots : List ℕ} → Parameters space → free .rule .0 ≡ 0 → free .cell ≡ 4 → length ranks ≡ mostRules → length roots ≡ mostRules
-      → Making 0 0 form₀ space free ranks roots
+      → Making 0 0 table₀ space free ranks roots
   unfolding scanned
   none-made {space} {free} {ranks} {roots} p rule cell ranked rooted = record {
     nodes = 0;
@@ -79,7 +77,7 @@ module _ {form₀ alphabet body : List ℕ} {count : ℕ} (g : Grammar form₀ a
       four = omega arith;
       parameters = p .parameters;
     };
-    held = held-none form₀;
+    held = held-none table₀;
     counted = rule;
     few-rules = omega arith;
     few-cells = omega arith;
@@ -91,129 +89,125 @@ module _ {form₀ alphabet body : List ℕ} {count : ℕ} (g : Grammar form₀ a
   pub few-rules : count ≤ mostRules
   few-rules = omega (arith, g .count, g .proper .few)
 
-  -- one rule
-  module _ {at i : ℕ} {form space : List ℕ} {free : Free} {ranks roots : List ℕ} (s : Making at i form space free ranks roots) (more : i < count) where
+  -- one rule, which stands in a span
+  module _ {at i : ℕ} {table space : List ℕ} {free : Free} {ranks roots : List ℕ} (s : Making at i table space free ranks roots) (more : i < count) where
     inside : i < length rules
     inside = omega (arith, g .count)
 
-    there : (behind body at ≤ length body) × (rulesBody (drop at body) .rules ≡ ruleThere body at ∷ rulesBody (drop (behind body at) body) .rules)
-    there = opened body at (rw (← s .rest, length-drop) (omega (arith, inside)))
+    pub in-body : at < length body
+    in-body = inside-body body at i (s .rest) inside
 
-    pub whole : behind body at ≤ length body
-    whole = there .0
+    pub stands : {span : Span} → span ≡ spanAt body at → Standing body at i span
+    stands e = standing body at i (s .rest) inside e
 
-    split : ruleAt rules i ∷ drop (suc i) rules ≡ ruleThere body at ∷ rulesBody (drop (behind body at) body) .rules
-    split = sym (drop-cons rules i (record { rank = 0; nodes = [] }) inside) ∙ s .rest ∙ there .1
+    module _ {span : Span} (is : span ≡ spanAt body at) where
+      abbrev nodes-there : List ℕ
+      nodes-there = ruleIn body span .nodes
 
-    rule-is : ruleAt rules i ≡ ruleThere body at
-    rule-is = cc (split)
+      there : Standing body at i span
+      there = stands is
 
-    next-is : drop (suc i) rules ≡ rulesBody (drop (behind body at) body) .rules
-    next-is = cc (split)
+      later : Passed body (span .end) (i + 1) (s .nodes + (span .end - span .start))
+      later = rule-passed body at i (s .nodes) (s .passed) is (there .whole)
 
-    later : Passed body (behind body at) (i + 1) (s .nodes + nodesAt body at)
-    later = rule-passed body at i (s .nodes) (s .passed) whole
+      long-nodes : length nodes-there ≡ span .end - span .start
+      long-nodes = rw is (nodes-long body at (rw is at (there .whole)))
 
-    nodes-long : length (ruleThere body at .nodes) ≡ nodesAt body at
-    nodes-long = length-take-le _ _ (rw length-drop (omega (arith, whole)))
+      -- what the rules from here on may add
+      bound-split : sumRules bound (drop i rules) ≡ sideBound rules nodes-there + sumRules bound (drop (suc i) rules)
+      bound-split = ap (sumRules bound) (drop-cons rules i (record { rank = 0; nodes = [] }) inside ∙ ap (λ (r : Rule). r ∷ drop (suc i) rules) (there .rule))
 
-    side-room : {ys : List ℕ} → ys ≡ ruleThere body at .nodes → Room (16 * length ys) (4 * length ys) form space free
-    side-room {ys} e =
-        let l : length ys ≡ nodesAt body at = ap length e ∙ nodes-long in
-        record {
-          fits = omega (arith, s .few-rules, s .long, later .nodes, g .room);
-          numbers = omega (arith, s .few-rules, later .nodes, g .few);
-          all = s .all;
-          left = omega (arith, s .few-cells, later .nodes, g .few);
-        }
+      side-room : Room (sideBound rules nodes-there) (4 * length nodes-there) table space free
+      side-room = record {
+        fits = omega (arith, s .few-rules, s .long, bound-split, g .room);
+        numbers = omega (arith, s .few-rules, bound-split, bound-linear alphabet rules (g .proper), g .few);
+        all = s .all;
+        left = omega (arith, s .few-cells, later .nodes, long-nodes, g .few);
+      }
 
-    pub side : {ys : List ℕ} → ys ≡ ruleThere body at .nodes → RightSide form space free alphabet ranks roots ys
-    side {ys} e = record {
-      rules = rules;
-      number = i;
-      made = made i .rules;
-      skeleton = skeletonOf (made i);
-      proper = g .proper;
-      low = rank-le alphabet (alphabet-passed alphabet (g .alphabet) .ranks);
-      inside = inside;
-      nodes-of = e ∙ ap (λ (r : Rule). r .nodes) (sym rule-is);
-      few = omega (arith, ap length e, nodes-long, later .nodes, g .few);
-      known = s .known;
-      held = s .held;
-      counted = s .counted;
-      room = side-room e;
-    }
+      pub side : RightSide table space free alphabet ranks roots nodes-there
+      side = record {
+        rules = rules;
+        number = i;
+        made = made i .rules;
+        skeleton = skeletonOf (made i);
+        proper = g .proper;
+        low = rank-le alphabet (alphabet-passed alphabet (g .alphabet) .ranks);
+        inside = inside;
+        nodes-of = ap (λ (r : Rule). r .nodes) (sym (there .rule));
+        few = omega (arith, long-nodes, later .nodes, g .few);
+        known = s .known;
+        held = s .held;
+        counted = s .counted;
+        room = side-room;
+      }
 
-    -- the next rule
-    module _ {ys : List ℕ} (e : ys ≡ ruleThere body at .nodes) {form′ space′ : List ℕ} {r : Made} (d : SideMade form space free alphabet ranks roots ys form′ space′ r) where
-      grown : Grown (16 * length ys) (4 * length ys) form space free form′ space′ (r .free)
-      grown = d .grown (side e)
+      -- the next rule
+      module _ {table′ space′ : List ℕ} {r : Made} (d : SideMade table space free alphabet ranks roots nodes-there table′ space′ r) where
+        grown : Grown (sideBound rules nodes-there) (4 * length nodes-there) table space free table′ space′ (r .free)
+        unfolding side
+        grown = d .grown side
 
-      same-nodes : ys ≡ ruleAt rules i .nodes
-      same-nodes = e ∙ ap (λ (x : Rule). x .nodes) (sym rule-is)
+        stood : Stood (record { rules = made (suc i) .rules; made = skeletonOf (made (suc i)) i }) table′ space′ r
+        unfolding scanned side
+        stood =
+            rw (new-skeleton alphabet rules i)
+            (subst (λ (ns : List ℕ). let m = scan (rankIn alphabet rules) (skeletonOf (made i)) ns (made i .rules) in Stood (record { rules = m .rules; made = nth (m .made) 0 }) table′ space′ r) (ap (λ (x : Rule). x .nodes) (sym (there .rule))) (d .stood side))
 
-      stood : Stood (record { rules = made (suc i) .rules; made = skeletonOf (made (suc i)) i }) form′ space′ r
-      unfolding scanned side
-      stood =
-          rw (new-skeleton alphabet rules i)
-          (subst (λ (ns : List ℕ). let m = scan (rankIn alphabet rules) (skeletonOf (made i)) ns (made i .rules) in Stood (record { rules = m .rules; made = nth (m .made) 0 }) form′ space′ r) same-nodes (d .stood (side e)))
+        known-next : Known space′ (r .free) (set ranks i (span .rank)) (set roots i (r .cell)) rules (suc i) (skeletonOf (made (suc i)))
+        known-next =
+            let k = s .known in
+            let i64 : i < mostRules = omega (arith, few-rules) in
+            let upto : suc i ≤ length rules = omega (arith, inside) in
+            let rooted : i < length roots = omega (arith, k .rooted) in
+            let here : getD (set roots i (r .cell)) i 0 ≡ r .cell = getD-set-same roots i (r .cell) 0 rooted in
+            let other : (n : ℕ) → n < i → getD (set roots i (r .cell)) n 0 ≡ getD roots n 0 = λ n h. getD-set-other roots i n (r .cell) 0 (λ q. omega arith) in
+            record {
+              rooted = length-set roots i (r .cell) ∙ k .rooted;
+              rank = up (λ n. getD (set ranks i (span .rank)) n 0 ≡ ruleRank rules n)
+                  (λ n h. getD-set-other ranks i n (span .rank) 0 (λ q. omega arith) ∙ k .rank n h)
+                  (getD-set-same ranks i (span .rank) 0 (omega (arith, s .ranked)) ∙ ap (λ (x : Rule). x .rank) (sym (there .rule)));
+              lower = up (λ n. getD (set roots i (r .cell)) n 0 < r .free .cell)
+                  (λ n h. rw (other n h) (omega (arith, k .lower n h, grown .more-cells)))
+                  (rw here (stood .lower));
+              stands = up (λ n. Stands space′ (getD (set roots i (r .cell)) n 0) (skeletonOf (made (suc i)) n))
+                  (λ n h. rw (other n h, old-skeleton alphabet rules i n h) (grown-stands grown (getD roots n 0) (skeletonOf (made i) n) (k .lower n h) (k .stands n h)))
+                  (rw here (stood .stands));
+              bounded = λ n h. lower-bounded alphabet rules (g .proper) (suc i) upto n h;
+              light = λ n h. lower-light alphabet rules (g .proper) (suc i) upto n h;
+              four = omega (arith, k .four, grown .more-cells);
+              parameters = λ j h. grown-stands grown j (param j) (omega (arith, k .four)) (k .parameters j h);
+            }
+          where
+            up : (P : ℕ → Type 0) → ((n : ℕ) → n < i → P n) → P i → (n : ℕ) → n < suc i → P n
+            up P old new n h = below-more P i old new n (omega arith)
 
-      known-next : Known space′ (r .free) (set ranks i (getD body at 0)) (set roots i (r .cell)) rules (suc i) (skeletonOf (made (suc i)))
-      known-next =
-          let k = s .known in
-          let i64 : i < mostRules = omega (arith, few-rules) in
-          let upto : suc i ≤ length rules = omega (arith, inside) in
-          let rooted : i < length roots = omega (arith, k .rooted) in
-          let here : getD (set roots i (r .cell)) i 0 ≡ r .cell = getD-set-same roots i (r .cell) 0 rooted in
-          let other : (n : ℕ) → n < i → getD (set roots i (r .cell)) n 0 ≡ getD roots n 0 = λ n h. getD-set-other roots i n (r .cell) 0 (λ q. omega arith) in
-          record {
-            rooted = length-set roots i (r .cell) ∙ k .rooted;
-            rank = up (λ n. getD (set ranks i (getD body at 0)) n 0 ≡ ruleRank rules n)
-                (λ n h. getD-set-other ranks i n (getD body at 0) 0 (λ q. omega arith) ∙ k .rank n h)
-                (getD-set-same ranks i (getD body at 0) 0 (omega (arith, s .ranked)) ∙ ap (λ (x : Rule). x .rank) (sym rule-is));
-            lower = up (λ n. getD (set roots i (r .cell)) n 0 < r .free .cell)
-                (λ n h. rw (other n h) (omega (arith, k .lower n h, grown .more-cells)))
-                (rw here (stood .lower));
-            stands = up (λ n. Stands space′ (getD (set roots i (r .cell)) n 0) (skeletonOf (made (suc i)) n))
-                (λ n h. rw (other n h, old-skeleton alphabet rules i n h) (grown-stands grown (getD roots n 0) (skeletonOf (made i) n) (k .lower n h) (k .stands n h)))
-                (rw here (stood .stands));
-            bounded = λ n h. lower-bounded alphabet rules (g .proper) (suc i) upto n h;
-            light = λ n h. lower-light alphabet rules (g .proper) (suc i) upto n h;
-            four = omega (arith, k .four, grown .more-cells);
-            parameters = λ j h. grown-stands grown j (param j) (omega (arith, k .four)) (k .parameters j h);
-          }
-        where
-          up : (P : ℕ → Type 0) → ((n : ℕ) → n < i → P n) → P i → (n : ℕ) → n < suc i → P n
-          up P old new n h = below-more P i old new n (omega arith)
-
-      pub rule-made : (i′ : ℕ) → i′ ≡ i + 1 → (at′ : ℕ) → at′ ≡ behind body at
-          → Making at′ i′ form′ space′ (r .free) (set ranks i (getD body at 0)) (set roots i (r .cell))
-      rule-made i′ p at′ q =
-          let z : i′ ≡ suc i = omega arith in
-          let l : length ys ≡ nodesAt body at = ap length e ∙ nodes-long in
-          rw (z, q)
-          record {
-            nodes = s .nodes + nodesAt body at;
-            passed = subst (λ (n : ℕ). Passed body (behind body at) n (s .nodes + nodesAt body at)) (omega arith) later;
-            rest = next-is;
-            ranked = length-set ranks i (getD body at 0) ∙ s .ranked;
-            known = known-next;
-            held = stood .held;
-            counted = stood .counted;
-            few-rules = omega (arith, grown .few-rules, s .few-rules);
-            few-cells = omega (arith, grown .few-cells, s .few-cells);
-            all = grown .all ∙ s .all;
-            long = grown .long ∙ s .long;
-            kept = λ n h. grown .behind n h ∙ s .kept n (omega (arith, grown .more-rules));
-          }
+        pub rule-made : {i′ : ℕ} → i′ ≡ i + 1 → Making (span .end) i′ table′ space′ (r .free) (set ranks i (span .rank)) (set roots i (r .cell))
+        rule-made {i′} p =
+            let z : i′ ≡ suc i = omega arith in
+            rw z
+            record {
+              nodes = s .nodes + (span .end - span .start);
+              passed = subst (λ (n : ℕ). Passed body (span .end) n (s .nodes + (span .end - span .start))) (omega arith) later;
+              rest = there .next;
+              ranked = length-set ranks i (span .rank) ∙ s .ranked;
+              known = known-next;
+              held = stood .held;
+              counted = stood .counted;
+              few-rules = omega (arith, grown .few-rules, s .few-rules, bound-split);
+              few-cells = omega (arith, grown .few-cells, s .few-cells, long-nodes);
+              all = grown .all ∙ s .all;
+              long = grown .long ∙ s .long;
+              kept = λ n h. grown .behind n h ∙ s .kept n (omega (arith, grown .more-rules));
+            }
 
   -- all rules
-  module _ {at i : ℕ} {form space : List ℕ} {free : Free} {ranks roots : List ℕ} (s : Making at i form space free ranks roots) (most : count ≤ i) where
+  module _ {at i : ℕ} {table space : List ℕ} {free : Free} {ranks roots : List ℕ} (s : Making at i table space free ranks roots) (most : count ≤ i) where
     all-there : i ≡ length rules
     all-there = omega (arith, g .count, s .passed .rules)
 
-    final : Making at (length rules) form space free ranks roots
-    final = subst (λ (n : ℕ). Making at n form space free ranks roots) all-there s
+    final : Making at (length rules) table space free ranks roots
+    final = subst (λ (n : ℕ). Making at n table space free ranks roots) all-there s
 
     last : length rules - 1 < length rules
     last = omega (arith, g .proper .some)
@@ -227,15 +221,16 @@ module _ {form₀ alphabet body : List ℕ} {count : ℕ} (g : Grammar form₀ a
     cells-fit = omega (arith, s .few-cells, s .passed .nodes, g .few)
 
     -- the start's cell represents a rule of the form
-    pub begins : (n : ℕ) → n ≡ count - 1 → skeletonOf (modelOf alphabet rules) (length rules - 1) ≡ shut (field space (getD roots n 0) 1)
+    pub begins : (n : ℕ) → n ≡ count - 1 → skeletonOf (modelOf alphabet rules) (length rules - 1) ≡ shut (closedAt space (getD roots n 0))
     begins n e =
         let z : n ≡ length rules - 1 = omega (arith, g .count) in
         let f = scanned-form alphabet rules (g .proper) in
         let p : Stands space (getD roots (length rules - 1) 0) (shut (f .0)) = rw (f .1) at (final .known .stands (length rules - 1) last) in
-        rw (z, p .1) (f .1)
+        rw (z, closed-rule-is space (getD roots (length rules - 1) 0) p) (f .1)
 
-    pub finished : {n start : ℕ} → n ≡ count - 1 → start ≡ field space (getD roots n 0) 1 → RulesMade form₀ alphabet body form (record { count = free .rule; start = record { 0 = start } })
-    finished {n} {start} e is = record {
+    pub finished : {n : ℕ} {start : Number} → n ≡ count - 1 → start .0 ≡ closedAt space (getD roots n 0)
+        → RulesMade table₀ alphabet body table (record { count = free .rule; start = start })
+    finished {n} e is = record {
       held = final .held;
       counted = final .counted;
       begun = rw is (begins n e);

@@ -10,7 +10,8 @@ use lib.ListN.{length, getD, drop, take, set, length-drop, length-set}
 use lib.Seq.{drop-cons, getD-drop, drop-drop, drop-set-lt, getD-set-same, take-all}
 use Rattle.terms.specs.Test.{all}
 use Rattle.terms.specs.Tree.{Wholes, exactly, lacking, taking, wholes}
-use Rattle.terms.specs.Grammar.{Name, terminal, nonterminal, parameter, nothing, name, ruleRank, nameRank, rankIn, allowed}
+use Rattle.terms.specs.Grammar.{Name, terminal, nonterminal, parameter, nothing, name, ruleRank, nameRank, rankIn, allowed, sumOver}
+use Rattle.terms.specs.Form.{share}
 use Rattle.terms.specs.Check.{mostRules, mostNodes}
 use Rattle.terms.proofs.Test.{both-0, both-1, is-true}
 use Rattle.terms.proofs.Scan.{wholes-part}
@@ -21,12 +22,12 @@ use Rattle.skeletons.specs.Skeleton.{size, weight}
 use Rattle.cells.specs.Cells.{Stands, Row}
 use Rattle.cells.specs.State.{Room, Grown, Stood}
 use Rattle.contraction.specs.Substitution.{Bounded, StoodRow}
-use Rattle.right_sides.specs.Side.{NodeReady, NodeMade, RightSide, sideMade}
+use Rattle.right_sides.specs.Side.{NodeReady, NodeMade, sideBound, RightSide, sideMade}
 use Rattle.cells.specs.declared.state.Free.{Free}
 use Rattle.cells.specs.declared.state.Made.{Made}
-use Rattle.grammars.specs.Rules.{ruledBy, HasRank}
-use Rattle.grammars.proofs.Rule.{rank-known}
-use Rattle.grammars.proofs.Node as node
+use Rattle.nodes.specs.Nodes.{ruledBy, HasRank}
+use Rattle.nodes.proofs.Node.{rank-known}
+use Rattle.nodes.proofs.Node as node
 use Rattle.cells.proofs.Standing.{row-at}
 use Rattle.cells.proofs.Adding.{grown-none, grown-then, grown-less, grown-within, grown-stands, grown-rows, room-less}
 
@@ -79,7 +80,13 @@ all-at p [] h j l = absurd (omega arith)
 all-at p (x ∷ xs) h zero l = both-0 (p x) (all p xs) h
 all-at p (x ∷ xs) h (suc j) l = all-at p xs (both-1 (p x) (all p xs) h) j (omega arith)
 
-module _ {form₀ space₀ : List ℕ} {free₀ : Free} {alphabet ranks roots nodes : List ℕ} (g : RightSide form₀ space₀ free₀ alphabet ranks roots nodes) where
+-- the nodes from a place on add no more than all of them
+sum-later : (h : Name → ℕ) (i : ℕ) (xs : List ℕ) → sumOver h (drop i xs) ≤ sumOver h xs
+sum-later h zero xs = omega arith
+sum-later h (suc i) [] = omega arith
+sum-later h (suc i) (x ∷ xs) = omega (arith, sum-later h i xs)
+
+module _ {table₀ space₀ : List ℕ} {free₀ : Free} {alphabet ranks roots nodes : List ℕ} (g : RightSide table₀ space₀ free₀ alphabet ranks roots nodes) where
   abbrev rankOf : ℕ → ℕ
   rankOf = rankIn alphabet (g .rules)
 
@@ -87,14 +94,14 @@ module _ {form₀ space₀ : List ℕ} {free₀ : Free} {alphabet ranks roots no
   abbrev after : ℕ → Mades
   after left = scan rankOf (g .skeleton) (drop left nodes) (g .made)
 
-  pub record Scanning (left low : ℕ) (form space : List ℕ) (free : Free) (stack : List ℕ) : Type 0 where
+  pub record Scanning (left low : ℕ) (table space : List ℕ) (free : Free) (stack : List ℕ) : Type 0 where
     pub upto : left ≤ length nodes
     pub long : length stack ≡ mostNodes
-    pub stood : StoodRow (after left) form space free (drop low stack)
+    pub stood : StoodRow (after left) table space free (drop low stack)
     pub depth : size (after left .made) + low ≡ mostNodes
     pub whole : wholes rankOf (drop left nodes) ≡ exactly (size (after left .made))
     pub shallow : size (after left .made) + left ≤ length nodes
-    pub grown : Grown (16 * (length nodes - left)) (4 * (length nodes - left)) form₀ space₀ free₀ form space free
+    pub grown : Grown (sideBound (g .rules) (drop left nodes)) (4 * (length nodes - left)) table₀ space₀ free₀ table space free
     pub few-cells : free .cell + 3 * size (after left .made) ≤ free₀ .cell + 4 * (length nodes - left)
 
   nothing-left : (left : ℕ) → left ≡ length nodes → drop left nodes ≡ []
@@ -104,7 +111,7 @@ module _ {form₀ space₀ : List ℕ} {free₀ : Free} {alphabet ranks roots no
       drop-all [] = refl
       drop-all (x ∷ xs) = drop-all xs
 
-  pub scan-none : (left low : ℕ) (stack : List ℕ) → left ≡ length nodes → low ≡ mostNodes → length stack ≡ mostNodes → Scanning left low form₀ space₀ free₀ stack
+  pub scan-none : (left low : ℕ) (stack : List ℕ) → left ≡ length nodes → low ≡ mostNodes → length stack ≡ mostNodes → Scanning left low table₀ space₀ free₀ stack
   unfolding scan wholes
   scan-none left low stack e z long =
       let n = nothing-left left e in
@@ -120,9 +127,9 @@ module _ {form₀ space₀ : List ℕ} {free₀ : Free} {alphabet ranks roots no
       }
 
   -- one node
-  module _ (left : ℕ) {left₀ low : ℕ} {form space : List ℕ} {free : Free} {stack : List ℕ} (e : left₀ ≡ suc left) (s′ : Scanning left₀ low form space free stack) where
-    s : Scanning (suc left) low form space free stack
-    s = subst (λ (n : ℕ). Scanning n low form space free stack) e s′
+  module _ (left : ℕ) {left₀ low : ℕ} {table space : List ℕ} {free : Free} {stack : List ℕ} (e : left₀ ≡ suc left) (s′ : Scanning left₀ low table space free stack) where
+    s : Scanning (suc left) low table space free stack
+    s = subst (λ (n : ℕ). Scanning n low table space free stack) e s′
 
     abbrev f : ℕ
     f = getD nodes left 0
@@ -138,6 +145,13 @@ module _ {form₀ space₀ : List ℕ} {free₀ : Free} {alphabet ranks roots no
 
     split : drop left nodes ≡ f ∷ drop (suc left) nodes
     split = drop-cons nodes left 0 (omega (arith, s .upto))
+
+    -- how many rules the node may add
+    abbrev adds : Name → ℕ
+    adds = share (ruleRank (g .rules))
+
+    bound-split : sideBound (g .rules) (drop left nodes) ≡ adds (name f) + sideBound (g .rules) (drop (suc left) nodes)
+    bound-split = ap (sumOver adds) split
 
     -- the stack has as many skeletons as the node takes
     trees : (n : ℕ) × (wholes rankOf (drop left nodes) ≡ exactly n) × (k ≤ size (m .made)) × (n ≡ suc (size (m .made) - k))
@@ -189,10 +203,10 @@ module _ {form₀ space₀ : List ℕ} {free₀ : Free} {alphabet ranks roots no
         go nothing h = omega arith
 
     -- there is room for what the node makes
-    room-here : Room 16 (1 + 3 * k) form space free
+    room-here : Room (adds (name f)) (1 + 3 * k) table space free
     room-here = record {
-      fits = omega (arith, g .room .fits, s .grown .few-rules, s .grown .long, s .upto);
-      numbers = omega (arith, g .room .numbers, s .grown .few-rules, s .upto);
+      fits = omega (arith, g .room .fits, s .grown .few-rules, s .grown .long, bound-split, sum-later adds left nodes);
+      numbers = omega (arith, g .room .numbers, s .grown .few-rules, bound-split, sum-later adds left nodes);
       all = s .grown .all ∙ g .room .all;
       left = omega (arith, g .room .left, s .few-cells, s .upto, enough);
     }
@@ -215,21 +229,21 @@ module _ {form₀ space₀ : List ℕ} {free₀ : Free} {alphabet ranks roots no
     own-parameter : (j : ℕ) → T (allowed alphabet (g .number) (ruleRank (g .rules) (g .number)) (parameter j)) → j < 4
     own-parameter j h = omega (arith, ltb→lt j (ruleRank (g .rules) (g .number)) h, g .proper .proper (g .number) (g .inside) .rank)
 
-    pub ready : NodeReady form space free roots k xs (name f)
+    pub ready : NodeReady table space free roots k xs (name f)
     unfolding rankIn
-    ready = go (name f) named refl
+    ready = go (name f) named refl room-here
       where
         go : (x : Name) → T (allowed alphabet (g .number) (ruleRank (g .rules) (g .number)) x) → nameRank alphabet (g .rules) x ≡ k
-            → NodeReady form space free roots k xs x
-        go (terminal a) h q = (
-          room-less (omega arith) (omega arith) room-here,
+            → Room (adds x) (1 + 3 * k) table space free → NodeReady table space free roots k xs x
+        go (terminal a) h q room = (
+          room-less (omega arith) (omega arith) room,
           record {
             few = node-low;
             there = omega (arith, length-drop low stack, s .long, s .depth, enough);
             each = λ j l. row-at space (free .cell) xs (m .made) (s .stood .row) j (omega (arith, enough)) .0;
           },
         )
-        go (nonterminal r) h q =
+        go (nonterminal r) h q room =
             let l = ltb→lt r (g .number) h in (
               omega (arith, few-rules),
               record {
@@ -239,37 +253,37 @@ module _ {form₀ space₀ : List ℕ} {free₀ : Free} {alphabet ranks roots no
                 lower = omega (arith, g .known .lower r l, s .grown .more-cells);
                 row = taken-row;
                 bounded = fitting r l q;
-                room = room-less (omega (arith, weighs r l q, node-low)) (weighs r l q) room-here;
+                room = room-less (g .known .light r l) (weighs r l q) room;
               },
             )
-        go (parameter j) h q = own-parameter j h
-        go nothing h q = absurd h
+        go (parameter j) h q room = own-parameter j h
+        go nothing h q room = absurd h
 
     -- what the node makes is what the model makes
 
     abbrev taking-these : Mades
     taking-these = record { rules = m .rules; made = top k (m .made) }
 
-    record NodeDone (form′ space′ : List ℕ) (r : Made) : Type 0 where
-      pub grown : Grown 16 (1 + 3 * k) form space free form′ space′ (r .free)
-      pub stood : Stood (name-made (g .skeleton) (name f) taking-these) form′ space′ r
+    record NodeDone (table′ space′ : List ℕ) (r : Made) : Type 0 where
+      pub grown : Grown (adds (name f)) (1 + 3 * k) table space free table′ space′ (r .free)
+      pub stood : Stood (name-made (g .skeleton) (name f) taking-these) table′ space′ r
 
-    done : (form′ space′ : List ℕ) (r : Made) → NodeMade form space free roots k xs (name f) form′ space′ r → NodeDone form′ space′ r
+    done : (table′ space′ : List ℕ) (r : Made) → NodeMade table space free roots k xs (name f) table′ space′ r → NodeDone table′ space′ r
     unfolding rankIn name-made
-    done form′ space′ r made =
+    done table′ space′ r made =
         let d = go (name f) named refl made in
         record { grown = d .0; stood = d .1 }
       where
         go : (x : Name) → T (allowed alphabet (g .number) (ruleRank (g .rules) (g .number)) x) → nameRank alphabet (g .rules) x ≡ k
-            → NodeMade form space free roots k xs x form′ space′ r
-            → Grown 16 (1 + 3 * k) form space free form′ space′ (r .free) × Stood (name-made (g .skeleton) x taking-these) form′ space′ r
+            → NodeMade table space free roots k xs x table′ space′ r
+            → Grown (adds x) (1 + 3 * k) table space free table′ space′ (r .free) × Stood (name-made (g .skeleton) x taking-these) table′ space′ r
         go (terminal a) h q made = (
           grown-less (omega arith) (omega arith) (made .grown),
           made .stood (m .rules) (top k (m .made)) (s .stood .held) (s .stood .counted) taken-row taken-size,
         )
         go (nonterminal n) h q made =
             let l = ltb→lt n (g .number) h in (
-              grown-less (omega (arith, weighs n l q, node-low)) (weighs n l q) (made .grown (g .skeleton n) (root-stands n l)),
+              grown-less (g .known .light n l) (weighs n l q) (made .grown (g .skeleton n) (root-stands n l)),
               made .stood (m .rules) (g .skeleton n) (top k (m .made)) (s .stood .held) (s .stood .counted) (root-stands n l) taken-row (fitting n l q),
             )
         go (parameter j) h q made =
@@ -292,11 +306,11 @@ module _ {form₀ space₀ : List ℕ} {free₀ : Free} {alphabet ranks roots no
     low-enough = (omega (arith, s .depth, s .shallow, g .few), omega (arith, s .depth, enough))
 
     -- the stack after the node
-    pub scan-more : (form′ space′ : List ℕ) (r : Made) → NodeMade form space free roots k xs (name f) form′ space′ r → (low′ : ℕ) → low′ ≡ low + k - 1
-        → Scanning left low′ form′ space′ (r .free) (set stack low′ (r .cell))
+    pub scan-more : (table′ space′ : List ℕ) (r : Made) → NodeMade table space free roots k xs (name f) table′ space′ r → (low′ : ℕ) → low′ ≡ low + k - 1
+        → Scanning left low′ table′ space′ (r .free) (set stack low′ (r .cell))
     unfolding turn
-    scan-more form′ space′ r made low′ at =
-        let d = done form′ space′ r made in
+    scan-more table′ space′ r made low′ at =
+        let d = done table′ space′ r made in
         let n : suc low′ ≡ low + k = omega (arith, low-enough) in
         let inside : low′ < length stack = omega (arith, s .long, low-enough) in
         let pushed : drop low′ (set stack low′ (r .cell)) ≡ r .cell ∷ drop k xs =
@@ -312,7 +326,7 @@ module _ {form₀ space₀ : List ℕ} {free₀ : Free} {alphabet ranks roots no
           depth = rw turned (omega (arith, s .depth, enough, low-enough));
           whole = trees .1 ∙ rw turned (ap exactly (omega (arith, trees .3)));
           shallow = rw turned (omega (arith, s .shallow, enough));
-          grown = grown-within (omega (arith, s .grown .few-rules, d .grown .few-rules, s .upto)) (omega arith) (grown-then (s .grown) (d .grown));
+          grown = grown-within (omega (arith, s .grown .few-rules, d .grown .few-rules, bound-split)) (omega arith) (grown-then (s .grown) (d .grown));
           few-cells = rw turned few;
         }
 
@@ -321,18 +335,18 @@ module _ {form₀ space₀ : List ℕ} {free₀ : Free} {alphabet ranks roots no
       pub rank-read : n ≡ k
       rank-read = ranked ∙ ap (nameRank alphabet (ruledBy ranks)) called ∙ node-rank
 
-      pub ready-as : (ys : List ℕ) → ys ≡ xs → NodeReady form space free roots n ys x
+      pub ready-as : (ys : List ℕ) → ys ≡ xs → NodeReady table space free roots n ys x
       ready-as ys e = rw (rank-read, e, called) ready
 
-      pub scan-more-as : (ys : List ℕ) → ys ≡ xs → (form′ space′ : List ℕ) (r : Made) → NodeMade form space free roots n ys x form′ space′ r
-          → (low′ : ℕ) → low′ ≡ low + n - 1 → Scanning left low′ form′ space′ (r .free) (set stack low′ (r .cell))
-      scan-more-as ys e form′ space′ r made low′ at = scan-more form′ space′ r (rw (rank-read, e, called) at made) low′ (rw rank-read at at)
+      pub scan-more-as : (ys : List ℕ) → ys ≡ xs → (table′ space′ : List ℕ) (r : Made) → NodeMade table space free roots n ys x table′ space′ r
+          → (low′ : ℕ) → low′ ≡ low + n - 1 → Scanning left low′ table′ space′ (r .free) (set stack low′ (r .cell))
+      scan-more-as ys e table′ space′ r made low′ at = scan-more table′ space′ r (rw (rank-read, e, called) at made) low′ (rw rank-read at at)
 
   -- all nodes
-  pub scan-all : {left low : ℕ} {form space : List ℕ} {free : Free} {stack : List ℕ} → left ≡ 0 → Scanning left low form space free stack
-      → (low < mostNodes) × Grown (16 * length nodes) (4 * length nodes) form₀ space₀ free₀ form space free × Stood (sideMade g) form space (record { free = free; cell = getD stack low 0 })
-  scan-all {left} {low} {form} {space} {free} {stack} z s′ =
-      let s : Scanning 0 low form space free stack = subst (λ (n : ℕ). Scanning n low form space free stack) z s′ in
+  pub scan-all : {left low : ℕ} {table space : List ℕ} {free : Free} {stack : List ℕ} → left ≡ 0 → Scanning left low table space free stack
+      → (low < mostNodes) × Grown (sideBound (g .rules) nodes) (4 * length nodes) table₀ space₀ free₀ table space free × Stood (sideMade g) table space (record { free = free; cell = getD stack low 0 })
+  scan-all {left} {low} {table} {space} {free} {stack} z s′ =
+      let s : Scanning 0 low table space free stack = subst (λ (n : ℕ). Scanning n low table space free stack) z s′ in
       let w : exactly (size (after 0 .made)) ≡ exactly 1 = sym (s .whole) ∙ rw (g .nodes-of) (g .proper .proper (g .number) (g .inside) .whole) in
       let one : size (after 0 .made) ≡ 1 = cc in
       let a = row-at space (free .cell) (drop low stack) (after 0 .made) (s .stood .row) 0 (omega arith) in

@@ -6,18 +6,18 @@ use checks::limits::MOST_NODES;
 use checks::limits::MOST_RULES;
 use contraction::contract_terminal::contract_terminal;
 use contraction::substitute::substitute;
-use grammars::name::Name;
-use grammars::name::name_of;
-use grammars::name::name_rank;
+use nodes::name::Name;
+use nodes::name::name_of;
+use nodes::name::name_rank;
 ghost use mathlib.Core.Path.{_≡_};
 ghost use lib.ListN.{length};
 ghost use Rattle.terms.specs.Check.{mostRules};
-ghost use Rattle.grammars.specs.Rules.{naming};
+ghost use Rattle.nodes.specs.Nodes.{naming};
 ghost use Rattle.right_sides.specs.Side.{NodeReady, NodeMade, RightSide, SideMade};
 
 // A node over cells. A parameter's cell has its number.
 fn node(
-    form: &mut [u8],
+    table: &mut [u8],
     cells: &mut [u16; SPACE],
     free: Free,
     roots: &[u16; MOST_RULES],
@@ -25,14 +25,14 @@ fn node(
     rank: u8,
     children: &[u16],
 ) -> Made
-    requires { ⌜ (length (now roots) ≡ mostRules) × NodeReady (now form) (now cells) free (now roots) rank (now children) (naming name) ⌝ }
-    ensures { λ r. ⌜ NodeMade (now (form .entry)) (now (cells .entry)) free (now (roots .entry)) rank (now (children .entry)) (naming name) (now (form .exit)) (now (cells .exit)) r ⌝ }
+    requires { ⌜ (length (now roots) ≡ mostRules) × NodeReady (now table) (now cells) free (now roots) rank (now children) (naming name) ⌝ }
+    ensures { λ r. ⌜ NodeMade (now (table .entry)) (now (cells .entry)) free (now (roots .entry)) rank (now (children .entry)) (naming name) (now (table .exit)) (now (cells .exit)) r ⌝ }
 {
     match name {
-        Name::Terminal(f) => contract_terminal(form, cells, free, f, rank, children),
+        Name::Terminal(f) => contract_terminal(table, cells, free, f, rank, children),
         Name::Nonterminal(r) => {
             let root = roots[r.0 as usize];
-            substitute(form, cells, free, children, root)
+            substitute(table, cells, free, children, root)
         }
         Name::Parameter(j) => Made {
             free,
@@ -44,7 +44,7 @@ fn node(
 
 // The nodes of a right side. The stack lies at the end of its array, from `low` on.
 pub fn right_side(
-    form: &mut [u8],
+    table: &mut [u8],
     cells: &mut [u16; SPACE],
     free: Free,
     alphabet: &[u8],
@@ -52,8 +52,8 @@ pub fn right_side(
     roots: &[u16; MOST_RULES],
     nodes: &[u8],
 ) -> Made
-    requires { ⌜ RightSide (now form) (now cells) free (now alphabet) (now ranks) (now roots) (now nodes) ⌝ }
-    ensures { λ r. ⌜ SideMade (now (form .entry)) (now (cells .entry)) free (now (alphabet .entry)) (now (ranks .entry)) (now (roots .entry)) (now (nodes .entry)) (now (form .exit)) (now (cells .exit)) r ⌝ }
+    requires { ⌜ RightSide (now table) (now cells) free (now alphabet) (now ranks) (now roots) (now nodes) ⌝ }
+    ensures { λ r. ⌜ SideMade (now (table .entry)) (now (cells .entry)) free (now (alphabet .entry)) (now (ranks .entry)) (now (roots .entry)) (now (nodes .entry)) (now (table .exit)) (now (cells .exit)) r ⌝ }
 {
     let mut stack = [0u16; MOST_NODES];
     let mut low = MOST_NODES;
@@ -63,7 +63,7 @@ pub fn right_side(
         left -= 1;
         let name = name_of(nodes[left]);
         let rank = name_rank(alphabet, ranks, name);
-        let made = node(form, cells, next, roots, name, rank, &stack[low..]);
+        let made = node(table, cells, next, roots, name, rank, &stack[low..]);
         next = made.free;
         low = low + rank as usize - 1;
         stack[low] = made.cell;

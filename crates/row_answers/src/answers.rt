@@ -1,12 +1,8 @@
 // The answers of the calls.
-use counting::answer::Size;
-use evaluation::evaluate::Evaluation;
 use form_bytes::rule::FormRule;
-use forms::rule::RuleReading;
 use labelling::answer::Label;
-use making::Making;
 use marking::answer::Mark;
-use plain_walk::answer::Walk;
+use opening::RuleReading;
 use rows::show::next_answer;
 use rows::show::print_number;
 use rows::show::say_refused;
@@ -21,23 +17,24 @@ use rows::words::TALLY;
 use rows::words::TERMINAL;
 use rows::words::WRITTEN;
 use rows::words::say;
+use sizing::answer::Size;
 use tallies::answer::Marking;
 use tallies::tally::Step;
 use tallies::tally::Tally;
-use unfolding::unfold::Unfolding;
-use wrapping::wrap::Wrapping;
+use terms::answers::LengthAnswer;
+use terms::answers::MaskAnswer;
 
-pub fn say_making(made: Making) {
-    match made {
-        Making::Refused(n) => say_refused(n),
-        Making::Written(n) => say_with(WRITTEN, n as u64),
+pub fn say_length(written: LengthAnswer) {
+    match written {
+        LengthAnswer::Refused(n) => say_refused(n),
+        LengthAnswer::Written(n) => say_with(WRITTEN, n as u64),
     }
 }
 
-pub fn say_evaluation(evaluated: Evaluation) {
-    match evaluated {
-        Evaluation::Refused(n) => say_refused(n),
-        Evaluation::Mask(mask) => say_with(MASK, mask as u64),
+pub fn say_mask(states: MaskAnswer) {
+    match states {
+        MaskAnswer::Refused(n) => say_refused(n),
+        MaskAnswer::Mask(mask) => say_with(MASK, mask as u64),
     }
 }
 
@@ -53,27 +50,6 @@ pub fn say_label(found: Label) {
     match found {
         Label::Refused(n) => say_refused(n),
         Label::At(terminal) => say_with(TERMINAL, terminal.0 as u64),
-    }
-}
-
-pub fn say_unfolding(unfolded: Unfolding) {
-    match unfolded {
-        Unfolding::Refused(n) => say_refused(n),
-        Unfolding::Written(n) => say_with(WRITTEN, n as u64),
-    }
-}
-
-pub fn say_walk(walked: Walk) {
-    match walked {
-        Walk::Refused(n) => say_refused(n),
-        Walk::Mask(mask) => say_with(MASK, mask as u64),
-    }
-}
-
-pub fn say_wrapping(wrapped: Wrapping) {
-    match wrapped {
-        Wrapping::Refused(n) => say_refused(n),
-        Wrapping::Written(n) => say_with(WRITTEN, n as u64),
     }
 }
 

@@ -1,8 +1,6 @@
 // Certify, which is lent three slices more than the other calls.
-use crate::answers::say_evaluation;
-use crate::answers::say_making;
-use crate::answers::say_unfolding;
-use crate::answers::say_walk;
+use crate::answers::say_length;
+use crate::answers::say_mask;
 use certificate::certify::Answers;
 use certificate::certify::certify;
 use rows::lend::BYTE;
@@ -22,13 +20,13 @@ fn say_answers(answers: Answers) {
     let evaluated = answers.evaluated;
     let unfolded = answers.unfolded;
     let walked = answers.walked;
-    say_making(made);
+    say_length(made);
     next_answer();
-    say_evaluation(evaluated);
+    say_mask(evaluated);
     next_answer();
-    say_unfolding(unfolded);
+    say_length(unfolded);
     next_answer();
-    say_walk(walked);
+    say_mask(walked);
 }
 
 fn show_rest(counts: &[u64], tree: &[u8], masks: &[u8]) {

@@ -1,2 +1,3 @@
 // Reading a sheet, and refusing it by number.
+pub mod limits;
 pub mod sheet;

@@ -1,9 +1,10 @@
 // Reading a sheet of any length: what is refused of it, or where its bodies lie.
+use crate::limits::LONGEST_SHEET;
+use automata::check::check_automaton;
 use checks::alphabet::check_alphabet;
-use checks::automaton::check_automaton;
 use checks::bytes::word;
 use checks::limits::CONTENTS;
-use checks::limits::LONGEST_SHEET;
+use checks::limits::MOST_NODES;
 use grammars::rules::Rules;
 use grammars::rules::read_rules;
 ghost use mathlib.Core.Path.{_≡_};
@@ -12,15 +13,22 @@ ghost use Prim.Native.Nat.{_≤_};
 ghost use lib.ListN.{length};
 ghost use Rattle.terms.specs.Sheet.{body};
 ghost use Rattle.terms.specs.Check.{joins};
-ghost use Rattle.sheets.specs.Sheet.{sheetReading};
+ghost use Rattle.sheets.specs.Sheet.{answerOfReading, sheetReading};
 ghost use Rattle.sheets.specs.Private.Bodies.{bodiesReading};
 
+// How many rules of a form a right-side node may take.
+const RULES_FOR_NODE: usize = 16;
+
+// The most rules that a form of a sheet may take.
+pub const MOST_ASKED: usize = RULES_FOR_NODE * MOST_NODES;
+
 // Where the bodies of a sheet lie, and how much they hold: the alphabet follows the contents with a byte for each
-// terminal, the rules follow the alphabet, and the automaton follows the rules to the end.
+// terminal, the rules follow the alphabet, and the automaton follows the rules to the end. A form of the sheet may take
+// so many rules as are asked.
 pub struct Layout {
     pub terminals: usize,
     pub rules: usize,
-    pub nodes: usize,
+    pub asked: usize,
     pub automaton: usize,
 }
 
@@ -85,7 +93,7 @@ fn read_joined(sheet: &[u8]) -> Rules
 
 // What is refused of a sheet, or where its bodies lie.
 pub fn read_sheet(sheet: &[u8]) -> Reading
-    ensures { λ r. ⌜ r ≡ sheetReading (now (sheet .entry)) ⌝ }
+    ensures { λ r. ⌜ answerOfReading r ≡ sheetReading (now (sheet .entry)) ⌝ }
 {
     if sheet.len() < CONTENTS || LONGEST_SHEET < sheet.len() {
         return Reading::Refused(1);
@@ -98,7 +106,7 @@ pub fn read_sheet(sheet: &[u8]) -> Reading
         Rules::Read(counts) => Reading::Sheet(Layout {
             terminals: word(sheet, 2),
             rules: counts.rules,
-            nodes: counts.nodes,
+            asked: RULES_FOR_NODE * counts.nodes,
             automaton: word(sheet, 8),
         }),
     }

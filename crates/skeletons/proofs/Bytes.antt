@@ -1,12 +1,13 @@
 -- The bytes of the form that is made of a proper grammar: they are accepted, derive the grammar's tree and keep both bounds.
 use mathlib.Core.Path.{_≡_, ap, _∙_}
 use mathlib.Core.List.{List}
-use Prim.Native.Nat.{ℕ, _*_, _-_, _≤_}
+use Prim.Native.Nat.{ℕ, _-_, _≤_}
 use native.Mathlib.Omega.{arith}
 use lib.ListN.{length}
 use Rattle.terms.specs.Grammar.{Rule, nodeCount, derived, Proper}
 use Rattle.terms.specs.Form.{treeIn, formBound}
-use Rattle.terms.specs.FormBytes.{ruleCount, ruleOffset, formTree, formRefusal, formBytes}
+use Rattle.terms.specs.FormBytes.{ruleCount, formLength, formTree, formRefusal, formBytes}
+use Rattle.terms.specs.Calls.{rulesFor}
 use Rattle.terms.proofs.Sheet.Passed.{AlphabetPassed}
 use Rattle.terms.proofs.Form.Written.{length-form, counted, written-form}
 use Rattle.skeletons.specs.Skeleton.{Skeleton, shut}
@@ -20,8 +21,8 @@ pub record MadeBytes (alphabet : List ℕ) (grammar : List Rule) : Type 0 where
   pub accepted : formRefusal alphabet (madeForm alphabet grammar) ≡ 0
   pub tree : formTree alphabet (madeForm alphabet grammar) ≡ derived alphabet grammar
   pub few : ruleCount (madeForm alphabet grammar) ≤ formBound grammar
-  pub linear : ruleCount (madeForm alphabet grammar) ≤ 16 * nodeCount grammar
-  pub long : length (madeForm alphabet grammar) ≡ ruleOffset (ruleCount (madeForm alphabet grammar))
+  pub linear : ruleCount (madeForm alphabet grammar) ≤ rulesFor grammar
+  pub long : length (madeForm alphabet grammar) ≡ formLength (ruleCount (madeForm alphabet grammar))
 
 -- the start is the rule that the start rule's skeleton is
 pub made-from : (alphabet : List ℕ) (grammar : List Rule) (start : ℕ) → skeletonOf (scanned alphabet grammar (length grammar)) (length grammar - 1) ≡ shut start

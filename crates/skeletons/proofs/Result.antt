@@ -1,13 +1,14 @@
 -- The form that is made from the node lists of a proper grammar is a form of that grammar.
 use mathlib.Core.Path.{_≡_, refl, _∙_, ap}
 use mathlib.Core.List.{List, []}
-use Prim.Native.Nat.{ℕ, _*_, _-_, _≤_, _<_}
+use Prim.Native.Nat.{ℕ, _-_, _≤_, _<_}
 use native.Mathlib.Omega.{arith}
 use native.Mathlib.Decide.{decLt}
 use lib.ListN.{length, List·getD-eq-default}
 use Rattle.terms.specs.Tree.{Tree, preorder}
-use Rattle.terms.specs.Grammar.{Name, terminal, nonterminal, parameter, nothing, Rule, ruleAt, ruleRank, rightSide, isParameter, sumOver, nodeCount, derived, Proper}
+use Rattle.terms.specs.Grammar.{Name, terminal, nonterminal, parameter, nothing, Rule, ruleAt, ruleRank, rightSide, isParameter, sumOver, derived, Proper}
 use Rattle.terms.specs.Form.{closed, share, formBound}
+use Rattle.terms.specs.Calls.{rulesForNode, rulesFor}
 use Rattle.skeletons.specs.FormOf.{FormOf}
 use Rattle.terms.specs.Form.{Rule as FormRule}
 use Rattle.terms.proofs.Form.Value.{derives-tree}
@@ -65,9 +66,9 @@ module _ (alphabet : List ℕ) (rules : List Rule) (p : Proper alphabet rules) w
       in (start : ℕ) × (skeletonOf x (length rules - 1) ≡ shut start) × FormOf alphabet rules (x .rules) start
   scanned-form = rw (scanned-right alphabet rules p (length rules) (omega arith)) made-form
 
--- at most 16 rules for each node
+-- at most so many rules as a grammar may take
 
-share-le : (ranks : ℕ → ℕ) → ((r : ℕ) → ranks r ≤ 4) → (x : Name) → share ranks x ≤ 16
+share-le : (ranks : ℕ → ℕ) → ((r : ℕ) → ranks r ≤ 4) → (x : Name) → share ranks x ≤ rulesForNode
 share-le ranks h (terminal f) = omega arith
 share-le ranks h (nonterminal r) = omega (arith, h r)
 share-le ranks h (parameter i) = omega arith
@@ -80,11 +81,11 @@ ranks-le alphabet rules p r = go (decLt r (length rules))
     go (yes h) = p .proper r h .rank
     go (no h) = omega (arith, ap (λ (x : Rule). x .rank) (List·getD-eq-default rules (record { rank = 0; nodes = [] }) {n = r} (omega arith)))
 
-pub bound-linear : (alphabet : List ℕ) (rules : List Rule) → Proper alphabet rules → formBound rules ≤ 16 * nodeCount rules
+pub bound-linear : (alphabet : List ℕ) (rules : List Rule) → Proper alphabet rules → formBound rules ≤ rulesFor rules
 bound-linear alphabet rules p =
     let g = share (ruleRank rules) in
-    rules-le (λ r. sumOver g (r .nodes)) (λ r. length (r .nodes)) 16 (λ r. sum-over-le g 16 (share-le (ruleRank rules) (ranks-le alphabet rules p)) (r .nodes)) rules
+    rules-le (λ r. sumOver g (r .nodes)) (λ r. length (r .nodes)) rulesForNode (λ r. sum-over-le g rulesForNode (share-le (ruleRank rules) (ranks-le alphabet rules p)) (r .nodes)) rules
 
 pub form-linear : (alphabet : List ℕ) (grammar : List Rule) → Proper alphabet grammar
-    → {rules : List FormRule} {start : ℕ} → FormOf alphabet grammar rules start → length rules ≤ 16 * nodeCount grammar
+    → {rules : List FormRule} {start : ℕ} → FormOf alphabet grammar rules start → length rules ≤ rulesFor grammar
 form-linear alphabet grammar p f = omega (arith, f .few, bound-linear alphabet grammar p)

@@ -5,13 +5,13 @@ use mathlib.Core.List.{List}
 use Prim.Native.Nat.{ℕ, _^_, _-_}
 use borrow.Author.Tests.{eqb-false, eq-eqb, ne-eqb}
 use Rattle.terms.specs.Test.{any}
+use Rattle.terms.specs.Refusal.{_when_}
+use Rattle.terms.specs.Answer.{Answer, refused, answered, answer}
 use Rattle.terms.specs.Calls.{full, sheetMarkingRefusal, markingRefusal}
 use Rattle.terms.proofs.Test.{or-false}
 use Rattle.terms.proofs.Refusal.{or-none}
 use Rattle.tallies.specs.declared.tally.Tally.{Tally}
-use Rattle.tallies.specs.declared.tally.Step.{Step}
-use Rattle.tallies.specs.declared.tally.Step.the-variants.{Refused, Moved}
-use Rattle.tallies.specs.Tally.{counts, isFull, movedUnless, stepped}
+use Rattle.tallies.specs.Tally.{counts, isFull, stepped}
 use Rattle.tallies.specs.Private.Landed.{landed}
 
 -- the largest count
@@ -51,14 +51,14 @@ module _ (t : Tally) where
       record { accepted = eqb-false _ _ a; declined = eqb-false _ _ d; away = eqb-false _ _ w }
 
   -- a step that is refused, and one that is not
-  pub step-refused : (next : Tally) → isFull t ≡ true → Refused 25 ≡ stepped t next
+  pub step-refused : (next : Tally) → isFull t ≡ true → refused 25 ≡ stepped t next
   step-refused next e = rw e
 
-  pub step-moved : (next : Tally) → isFull t ≡ false → Moved next ≡ stepped t next
+  pub step-moved : (next : Tally) → isFull t ≡ false → answered next ≡ stepped t next
   step-moved next e = rw e
 
-  pub lands : (next : Tally) {r : Tally} {s : Step} → isFull t ≡ false → s ≡ stepped t next → r ≡ landed t s → r ≡ next
-  lands next e s l = l ∙ ap (landed t) s ∙ ap (λ b. landed t (movedUnless b next)) e
+  pub lands : (next : Tally) {r : Tally} {s : Answer Tally} → isFull t ≡ false → s ≡ stepped t next → r ≡ landed t s → r ≡ next
+  lands next e s l = l ∙ ap (landed t) s ∙ ap (λ (b : Bool). landed t (answer (25 when b) next)) e
 
   -- what marking refuses of a tally, and of the sheet where every count can move on
   module _ (s : List ℕ) (room numbers : ℕ) where

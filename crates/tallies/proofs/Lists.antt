@@ -10,10 +10,9 @@ use Rattle.terms.specs.Refusal.{outside}
 use Rattle.terms.specs.Sheet.{Verdict, accepted, declined, sheetMask, sheetVerdict}
 use Rattle.terms.specs.Calls.{markingRefusal}
 use Rattle.tallies.specs.declared.tally.Tally.{Tally}
-use Rattle.marking.specs.declared.answer.Mark.{Mark}
-use Rattle.marking.specs.declared.answer.Mark.the-variants.{Refused, Accepted, Declined}
+use Rattle.terms.specs.Answer.{refused, answered, answer}
 use Rattle.tallies.specs.Tally.{counts, isFull, higher}
-use Rattle.marking.specs.Marking.{orVerdict}
+use Rattle.marking.specs.Marking.{MarkAnswer}
 use Rattle.tallies.specs.Counted.{counted}
 use Rattle.tallies.specs.Lists.{Call, answerTo, tallyAfter, finalTally, answers, isAccepted, isDeclined, isTurnedAway, isUncounted, howMany, zeroTally, Fits, Tallied}
 use Rattle.tallies.proofs.Full.{free, refused-full}
@@ -21,35 +20,35 @@ use Rattle.tallies.proofs.Numbers.{Number, marking-number}
 
 -- How one answer moves each count.
 
-accepted-moves : (t : Tally) (m : Mark) → counted m t .accepted ≡ t .accepted + cond (isAccepted m) 1 0
-accepted-moves t (Accepted mask) = refl
-accepted-moves t (Declined mask) = refl
-accepted-moves t (Refused n) = go (outside 1 16 n)
+accepted-moves : (t : Tally) (m : MarkAnswer) → counted m t .accepted ≡ t .accepted + cond (isAccepted m) 1 0
+accepted-moves t (answered (accepted, mask)) = refl
+accepted-moves t (answered (declined, mask)) = refl
+accepted-moves t (refused n) = go (outside 1 16 n)
   where
     go : (b : Bool) → (cond b t (higher t 0 0 1)) .accepted ≡ t .accepted + 0
     go true = omega arith
     go false = refl
 
-declined-moves : (t : Tally) (m : Mark) → counted m t .declined ≡ t .declined + cond (isDeclined m) 1 0
-declined-moves t (Accepted mask) = refl
-declined-moves t (Declined mask) = refl
-declined-moves t (Refused n) = go (outside 1 16 n)
+declined-moves : (t : Tally) (m : MarkAnswer) → counted m t .declined ≡ t .declined + cond (isDeclined m) 1 0
+declined-moves t (answered (accepted, mask)) = refl
+declined-moves t (answered (declined, mask)) = refl
+declined-moves t (refused n) = go (outside 1 16 n)
   where
     go : (b : Bool) → (cond b t (higher t 0 0 1)) .declined ≡ t .declined + 0
     go true = omega arith
     go false = refl
 
-away-moves : (t : Tally) (m : Mark) → counted m t .«turned_away» ≡ t .«turned_away» + cond (isTurnedAway m) 1 0
-away-moves t (Accepted mask) = refl
-away-moves t (Declined mask) = refl
-away-moves t (Refused n) = go (outside 1 16 n)
+away-moves : (t : Tally) (m : MarkAnswer) → counted m t .«turned_away» ≡ t .«turned_away» + cond (isTurnedAway m) 1 0
+away-moves t (answered (accepted, mask)) = refl
+away-moves t (answered (declined, mask)) = refl
+away-moves t (refused n) = go (outside 1 16 n)
   where
     go : (b : Bool) → (cond b t (higher t 0 0 1)) .«turned_away» ≡ t .«turned_away» + cond (not b) 1 0
     go true = omega arith
     go false = refl
 
 -- a count that each answer of one way moves by one counts the answers of that way
-count-of : (count : Tally → ℕ) (way : Mark → Bool) → ((t : Tally) (m : Mark) → count (counted m t) ≡ count t + cond (way m) 1 0)
+count-of : (count : Tally → ℕ) (way : MarkAnswer → Bool) → ((t : Tally) (m : MarkAnswer) → count (counted m t) ≡ count t + cond (way m) 1 0)
     → (t : Tally) (calls : List Call) → count (finalTally t calls) ≡ count t + howMany way (answers t calls)
 unfolding finalTally answers howMany
 count-of count way moves t [] = omega arith
@@ -57,29 +56,29 @@ count-of count way moves t (call ∷ calls) = omega (arith, count-of count way m
 
 -- Every answer is of one of the three ways, or by 17, 19 or 25.
 
-Answer : Mark → Type 0
-Answer (Refused n) = (1 ≤ n) × Number n
-Answer (Accepted mask) = Unit {0}
-Answer (Declined mask) = Unit {0}
+Way : MarkAnswer → Type 0
+Way (refused n) = (1 ≤ n) × Number n
+Way (answered (accepted, mask)) = Unit {0}
+Way (answered (declined, mask)) = Unit {0}
 
-is-answer : (t : Tally) (call : Call) → Answer (answerTo t call)
-unfolding Answer
+is-answer : (t : Tally) (call : Call) → Way (answerTo t call)
+unfolding Way
 is-answer t call = go (markingRefusal (counts t) (call .sheet) (call .room) (call .numbers)) (sheetVerdict (call .sheet)) (marking-number _ _ _ _)
   where
-    go : (n : ℕ) (v : Verdict) → Number n → Answer (orVerdict n v (sheetMask (call .sheet)))
+    go : (n : ℕ) (v : Verdict) → Number n → Way (answer n (v, sheetMask (call .sheet)))
     go zero accepted h = tt
     go zero declined h = tt
     go (suc n) v h = (omega arith, h)
 
-one-way : (m : Mark) → Answer m → cond (isAccepted m) 1 0 + cond (isDeclined m) 1 0 + cond (isTurnedAway m) 1 0 ≡ cond (not (isUncounted m)) 1 0
-unfolding Answer
-one-way (Accepted mask) h = refl
-one-way (Declined mask) h = refl
-one-way (Refused n) (l, inl h) =
+one-way : (m : MarkAnswer) → Way m → cond (isAccepted m) 1 0 + cond (isDeclined m) 1 0 + cond (isTurnedAway m) 1 0 ≡ cond (not (isUncounted m)) 1 0
+unfolding Way
+one-way (answered (accepted, mask)) h = refl
+one-way (answered (declined, mask)) h = refl
+one-way (refused n) (l, inl h) =
     rw (le-ltb n 1 l, le-ltb 16 n h, ne-eqb n 17 (λ e. omega arith), ne-eqb n 19 (λ e. omega arith), ne-eqb n 25 (λ e. omega arith))
-one-way (Refused n) (l, inr (inl e)) = rw e
-one-way (Refused n) (l, inr (inr (inl e))) = rw e
-one-way (Refused n) (l, inr (inr (inr e))) = rw e
+one-way (refused n) (l, inr (inl e)) = rw e
+one-way (refused n) (l, inr (inr (inl e))) = rw e
+one-way (refused n) (l, inr (inr (inr e))) = rw e
 
 ways-sum : (t : Tally) (calls : List Call) →
     let marks = answers t calls in
@@ -91,10 +90,10 @@ ways-sum t (call ∷ calls) = omega (arith, ways-sum (tallyAfter t call) calls, 
 -- No count passes the largest.
 
 module _ (t : Tally) (f : Fits t) where
-  moved-fits : isFull t ≡ false → (m : Mark) → Fits (counted m t)
-  moved-fits e (Accepted mask) = record { accepted = omega (arith, f .accepted, free t e .accepted); declined = omega (arith, f .declined); away = omega (arith, f .away) }
-  moved-fits e (Declined mask) = record { accepted = omega (arith, f .accepted); declined = omega (arith, f .declined, free t e .declined); away = omega (arith, f .away) }
-  moved-fits e (Refused n) = go (outside 1 16 n)
+  moved-fits : isFull t ≡ false → (m : MarkAnswer) → Fits (counted m t)
+  moved-fits e (answered (accepted, mask)) = record { accepted = omega (arith, f .accepted, free t e .accepted); declined = omega (arith, f .declined); away = omega (arith, f .away) }
+  moved-fits e (answered (declined, mask)) = record { accepted = omega (arith, f .accepted); declined = omega (arith, f .declined, free t e .declined); away = omega (arith, f .away) }
+  moved-fits e (refused n) = go (outside 1 16 n)
     where
       go : (b : Bool) → Fits (cond b t (higher t 0 0 1))
       go true = f

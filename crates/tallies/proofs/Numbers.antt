@@ -13,7 +13,7 @@ use Rattle.terms.specs.Tree.{wholes}
 use Rattle.terms.specs.Grammar.{Rule, ruleAt, ruleRank, rankIn, allAllowed, isParameter, sumOver, nodeCount}
 use Rattle.terms.specs.Sheet.{contentsLength, body, alphabetOf, rulesBody, automatonOf, stateCount, finals, transitionCount}
 use Rattle.terms.specs.Check.{mostTerminals, mostRules, mostNodes, highestRank, longestSheet, alphabetRefusal, isOne, lone, ruleRefusal, rulesRefusal, transitionFits, wrongLength, wrongStates, automatonRefusal, joins, sheetRefusal}
-use Rattle.terms.specs.FormBytes.{ruleOffset}
+use Rattle.terms.specs.FormBytes.{formLength}
 use Rattle.terms.specs.Calls.{rulesAsked, full, makingRefusal, sheetMarkingRefusal, markingRefusal}
 
 -- rows of numbers up to k
@@ -80,7 +80,7 @@ Number n = (n ≤ 16) ⊎ (n ≡ 17) ⊎ (n ≡ 19) ⊎ (n ≡ 25)
 
 pub marking-number : (counts s : List ℕ) (room numbers : ℕ) → Number (markingRefusal counts s room numbers)
 unfolding markingRefusal sheetMarkingRefusal makingRefusal
-marking-number counts s room numbers = go (any full counts) (ltb room (ruleOffset (rulesAsked s))) (sheetRefusal s) (ltb numbers (rulesAsked s)) (sheet-number s)
+marking-number counts s room numbers = go (any full counts) (ltb room (formLength (rulesAsked s))) (sheetRefusal s) (ltb numbers (rulesAsked s)) (sheet-number s)
   where
     go : (a b : Bool) (n : ℕ) (d : Bool) → n ≤ 16 → Number (first (25 when a ∷ first (first (n ∷ 17 when b ∷ []) ∷ 19 when d ∷ []) ∷ []))
     go true b n d h = inr (inr (inr refl))

@@ -6,8 +6,9 @@ use Prim.Native.Nat.{ℕ, _+_, _-_, _^_, _≤_}
 use lib.Dec.{eqb}
 use Rattle.terms.specs.Refusal.{outside}
 use Rattle.tallies.specs.declared.tally.Tally.{Tally}
-use Rattle.marking.specs.declared.answer.Mark.{Mark}
-use Rattle.marking.specs.declared.answer.Mark.the-variants.{Refused, Accepted, Declined}
+use Rattle.terms.specs.Sheet.{accepted, declined}
+use Rattle.terms.specs.Answer.{refused, answered}
+use Rattle.marking.specs.Marking.{MarkAnswer}
 use Rattle.tallies.specs.Counted.{marking, counted}
 
 -- a call of marking: its sheet, and how many form bytes and numbers are lent to it (01 Size, label, wrap, tally)
@@ -17,7 +18,7 @@ pub record Call : Type 0 where
   pub numbers : ℕ
 
 -- what a call answers with a tally (01 Size, label, wrap, tally)
-abbrev pub answerTo : Tally → Call → Mark
+abbrev pub answerTo : Tally → Call → MarkAnswer
 answerTo t call = marking t (call .sheet) (call .room) (call .numbers)
 
 -- the tally that a call leaves (01 Size, label, wrap, tally)
@@ -30,38 +31,38 @@ finalTally t [] = t
 finalTally t (call ∷ calls) = finalTally (tallyAfter t call) calls
 
 -- what the calls of a list answer, each with the tally of the call before it (01 Size, label, wrap, tally)
-unfoldable pub answers : Tally → List Call → List Mark
+unfoldable pub answers : Tally → List Call → List MarkAnswer
 answers t [] = []
 answers t (call ∷ calls) = answerTo t call ∷ answers (tallyAfter t call) calls
 
 -- The ways to answer.
 
 -- accepted (01 Size, label, wrap, tally)
-abbrev pub isAccepted : Mark → Bool
-isAccepted (Refused n) = false
-isAccepted (Accepted mask) = true
-isAccepted (Declined mask) = false
+abbrev pub isAccepted : MarkAnswer → Bool
+isAccepted (refused n) = false
+isAccepted (answered (accepted, mask)) = true
+isAccepted (answered (declined, mask)) = false
 
 -- declined (01 Size, label, wrap, tally)
-abbrev pub isDeclined : Mark → Bool
-isDeclined (Refused n) = false
-isDeclined (Accepted mask) = false
-isDeclined (Declined mask) = true
+abbrev pub isDeclined : MarkAnswer → Bool
+isDeclined (refused n) = false
+isDeclined (answered (accepted, mask)) = false
+isDeclined (answered (declined, mask)) = true
 
 -- turned away: refused by 1 to 16 (01 Size, label, wrap, tally)
-abbrev pub isTurnedAway : Mark → Bool
-isTurnedAway (Refused n) = not (outside 1 16 n)
-isTurnedAway (Accepted mask) = false
-isTurnedAway (Declined mask) = false
+abbrev pub isTurnedAway : MarkAnswer → Bool
+isTurnedAway (refused n) = not (outside 1 16 n)
+isTurnedAway (answered (accepted, mask)) = false
+isTurnedAway (answered (declined, mask)) = false
 
 -- refused by 17, 19 or 25 (01 Size, label, wrap, tally)
-abbrev pub isUncounted : Mark → Bool
-isUncounted (Refused n) = eqb n 17 || (eqb n 19 || eqb n 25)
-isUncounted (Accepted mask) = false
-isUncounted (Declined mask) = false
+abbrev pub isUncounted : MarkAnswer → Bool
+isUncounted (refused n) = eqb n 17 || (eqb n 19 || eqb n 25)
+isUncounted (answered (accepted, mask)) = false
+isUncounted (answered (declined, mask)) = false
 
 -- how many answers pass a test (01 Size, label, wrap, tally)
-unfoldable pub howMany : (Mark → Bool) → List Mark → ℕ
+unfoldable pub howMany : (MarkAnswer → Bool) → List MarkAnswer → ℕ
 howMany test [] = 0
 howMany test (mark ∷ marks) = cond (test mark) 1 0 + howMany test marks
 

@@ -1,8 +1,10 @@
 -- The tally and its steps (document 01, "Size, label, wrap, tally, program" and "Refusals with a sheet for each").
-use mathlib.Core.Bool.{Bool, true, false}
+use mathlib.Core.Bool.{Bool}
 use mathlib.Core.List.{List, [], _∷_}
 use Prim.Native.Nat.{ℕ, _+_}
 use Rattle.terms.specs.Test.{any}
+use Rattle.terms.specs.Refusal.{_when_}
+use Rattle.terms.specs.Answer.{Answer, refused, answered, answer}
 use Rattle.terms.specs.Calls.{full}
 use Rattle.tallies.specs.declared.tally.Tally.{Tally}
 use Rattle.tallies.specs.declared.tally.Step.{Step}
@@ -20,11 +22,11 @@ isFull t = any full (counts t)
 abbrev pub higher : Tally → ℕ → ℕ → ℕ → Tally
 higher t a d w = record { accepted = t .accepted + a; declined = t .declined + d; «turned_away» = t .«turned_away» + w }
 
--- a refusal by 25 where the test holds, else a moved tally (01 Refusals, 25)
-abbrev pub movedUnless : Bool → Tally → Step
-movedUnless true t = Refused 25
-movedUnless false t = Moved t
+-- a moved tally, for each case (01 Size, label, wrap, tally)
+abbrev pub answerOfStep : Step → Answer Tally
+answerOfStep (Refused n) = refused n
+answerOfStep (Moved next) = answered next
 
--- a step from one tally to another (01 Size, label, wrap, tally)
-abbrev pub stepped : Tally → Tally → Step
-stepped t next = movedUnless (isFull t) next
+-- a step from one tally to another, which 25 refuses where some count cannot move on (01 Size, label, wrap, tally)
+abbrev pub stepped : Tally → Tally → Answer Tally
+stepped t next = answer (25 when (isFull t)) next

@@ -1,7 +1,7 @@
 // The tally: how many sheets were accepted, declined and turned away.
 ghost use mathlib.Core.Path.{_≡_};
 ghost use Prim.Native.Nat.{_≤_};
-ghost use Rattle.tallies.specs.Tally.{isFull, higher, stepped};
+ghost use Rattle.tallies.specs.Tally.{isFull, higher, answerOfStep, stepped};
 
 pub struct Tally {
     pub accepted: u32,
@@ -32,7 +32,7 @@ impl Tally {
     // The counts go up by these numbers; refused by 25 where some count cannot move on.
     fn go_up(self, accepted: u32, declined: u32, away: u32) -> Step
         requires { ⌜ (accepted ≤ 1) × (declined ≤ 1) × (away ≤ 1) ⌝ }
-        ensures { λ r. ⌜ r ≡ stepped self (higher self accepted declined away) ⌝ }
+        ensures { λ r. ⌜ answerOfStep r ≡ stepped self (higher self accepted declined away) ⌝ }
     {
         if self.is_full() {
             return Step::Refused(25);
@@ -46,21 +46,21 @@ impl Tally {
 
     // A sheet more is accepted.
     pub fn accept(self) -> Step
-        ensures { λ r. ⌜ r ≡ stepped self (higher self 1 0 0) ⌝ }
+        ensures { λ r. ⌜ answerOfStep r ≡ stepped self (higher self 1 0 0) ⌝ }
     {
         self.go_up(1, 0, 0)
     }
 
     // A sheet more is declined.
     pub fn decline(self) -> Step
-        ensures { λ r. ⌜ r ≡ stepped self (higher self 0 1 0) ⌝ }
+        ensures { λ r. ⌜ answerOfStep r ≡ stepped self (higher self 0 1 0) ⌝ }
     {
         self.go_up(0, 1, 0)
     }
 
     // A sheet more is turned away.
     pub fn turn_away(self) -> Step
-        ensures { λ r. ⌜ r ≡ stepped self (higher self 0 0 1) ⌝ }
+        ensures { λ r. ⌜ answerOfStep r ≡ stepped self (higher self 0 0 1) ⌝ }
     {
         self.go_up(0, 0, 1)
     }

@@ -1,8 +1,7 @@
 -- Demand 3 on the definitions: it holds of any form of the sheet, and of the form that is made.
 use mathlib.Core.Path.{_≡_, sym, ap, _∙_}
 use mathlib.Core.List.{List}
-use Prim.Native.Nat.{ℕ, _*_, _≤_, _<_}
-use native.Mathlib.Omega.{arith}
+use Prim.Native.Nat.{ℕ, _*_, _≤_}
 use borrow.Author.Tests.{le-ltb}
 use lib.Dec.{T, ltb}
 use lib.ListN.{length}
@@ -10,21 +9,18 @@ use Rattle.terms.specs.Test.{all}
 use Rattle.terms.specs.Tree.{Tree, preorder, wholes}
 use Rattle.terms.specs.Grammar.{terminalRank}
 use Rattle.terms.specs.Automaton.{mask}
-use Rattle.terms.specs.Form.{Rule, closed, valueAt}
 use Rattle.terms.specs.Sheet.{alphabetOf, automatonOf, rulesOf, transitionsOf, sheetTree}
 use Rattle.terms.specs.Check.{isOne, isTree, treeRefusal, sheetRefusal}
-use Rattle.terms.specs.FormBytes.{ruleCount, startOf, ruleOffset, formRules, formTree}
+use Rattle.terms.specs.FormBytes.{ruleCount, formLength}
 use Rattle.terms.specs.Count.{sizeOf}
-use Rattle.terms.specs.Calls.{rulesAsked, makingRefusal, openingRefusal, evaluationRefusal, formMask, sizeRefusal, unfoldingRefusal, mostWalked, walkRefusal, walkMask}
+use Rattle.terms.specs.Calls.{rulesAsked, makingRefusal, openingRefusal, evaluationRefusal, formMask, countsPerRule, sizeRefusal, unfoldingRefusal, mostWalked, walkRefusal, walkMask}
 use Rattle.terms.specs.Demand.{FormOfSheet, MaskOfRuns, Demand3}
 use Rattle.terms.proofs.Test.{is-true, both}
 use Rattle.terms.proofs.Tree.Whole.{wholes-preorder, tree-of-preorder}
 use Rattle.terms.proofs.Grammar.Over.{over-known}
 use Rattle.terms.proofs.Grammar.Derivation.{derived-over, derived-ranked}
-use Rattle.terms.proofs.Form.Value.{derives-tree}
-use Rattle.terms.proofs.Form.Bytes.{FormPassed, form-passed}
-use Rattle.terms.proofs.Automaton.Table.{start-mask, start-run}
-use Rattle.terms.proofs.Sheet.Passed.{SheetPassed, sheet-passed, alphabet-passed, sheet-proper, sheet-small}
+use Rattle.terms.proofs.Automaton.Mask.{mask-iff}
+use Rattle.terms.proofs.Sheet.Passed.{SheetPassed, sheet-passed, sheet-proper, sheet-small}
 
 module _ (sheet : List ℕ) (passes : sheetRefusal sheet ≡ 0) where
   abbrev alphabet : List ℕ
@@ -63,41 +59,26 @@ module _ (sheet : List ℕ) (passes : sheetRefusal sheet ≡ 0) where
   unfolding walkMask sheetTree
   walk-answers = ap (mask (transitionsOf alphabet automaton)) (tree-of-preorder (terminalRank alphabet) tree (derived-ranked alphabet (rulesOf sheet) (sheet-proper sheet passes)))
 
-  pub making-passes : (room : ℕ) → ruleOffset (rulesAsked sheet) ≤ room → makingRefusal sheet room ≡ 0
+  pub making-passes : (room : ℕ) → formLength (rulesAsked sheet) ≤ room → makingRefusal sheet room ≡ 0
   unfolding makingRefusal
-  making-passes room h = rw (passes, le-ltb room (ruleOffset (rulesAsked sheet)) h)
+  making-passes room h = rw (passes, le-ltb room (formLength (rulesAsked sheet)) h)
 
   module _ (form : List ℕ) (formed : FormOfSheet sheet form) where
-    abbrev rules : List Rule
-    rules = formRules alphabet form
-
-    abbrev form-is : FormPassed alphabet form
-    form-is = form-passed alphabet form (alphabet-passed alphabet (passed .alphabet)) (formed .valid)
-
-    start-below : startOf form < length rules
-    start-below = omega (arith, form-is .start .below, form-is .count)
-
-    -- the start derives the sheet's tree
-    start-tree : valueAt rules (startOf form) ≡ closed tree
-    unfolding formTree
-    start-tree = derives-tree (form-is .valid) (startOf form) start-below (form-is .start .rank) ∙ ap closed (formed .tree)
-
     mask-is : formMask alphabet automaton form ≡ mask (transitionsOf alphabet automaton) tree
     unfolding formMask
-    mask-is = start-mask (transitionsOf alphabet automaton) (sheet-small sheet passes) (form-is .valid) (startOf form) start-below tree start-tree
+    mask-is = ap (mask (transitionsOf alphabet automaton)) (formed .tree)
 
     mask-of-runs : MaskOfRuns sheet (formMask alphabet automaton form)
-    unfolding formMask
-    mask-of-runs = start-run (transitionsOf alphabet automaton) (sheet-small sheet passes) (form-is .valid) (startOf form) start-below tree start-tree
+    mask-of-runs = rw mask-is (mask-iff (transitionsOf alphabet automaton) (sheet-small sheet passes) tree)
 
     evaluation-passes : (numbers : ℕ) → ruleCount form ≤ numbers → evaluationRefusal alphabet automaton form numbers ≡ 0
     unfolding evaluationRefusal
     evaluation-passes numbers h = rw (passed .alphabet, passed .automaton, formed .valid, le-ltb numbers (ruleCount form) h)
 
-    unfolding-passes : (numbers room : ℕ) → 2 * ruleCount form ≤ numbers → sizeOf tree ≤ room → unfoldingRefusal alphabet form numbers room ≡ 0
+    unfolding-passes : (numbers room : ℕ) → countsPerRule * ruleCount form ≤ numbers → sizeOf tree ≤ room → unfoldingRefusal alphabet form numbers room ≡ 0
     unfolding unfoldingRefusal sizeRefusal openingRefusal
     unfolding-passes numbers room h k =
-        rw (passed .alphabet, formed .valid, le-ltb numbers (2 * ruleCount form) h, formed .tree, le-ltb room (sizeOf tree) k)
+        rw (passed .alphabet, formed .valid, le-ltb numbers (countsPerRule * ruleCount form) h, formed .tree, le-ltb room (sizeOf tree) k)
 
     pub form-meets : Demand3 sheet form
     form-meets = record {

@@ -1,19 +1,20 @@
 -- What each call refuses, in document 01's order ("Order: the table's"), and what it answers. A lent slice stands by its length.
-use mathlib.Core.Bool.{Bool, cond}
+use mathlib.Core.Bool.{Bool}
 use mathlib.Core.List.{List, [], _∷_, _++_}
-use Prim.Native.Nat.{ℕ, zero, suc, _*_, _-_, _^_, _/_, _%_}
+use Prim.Native.Nat.{ℕ, zero, suc, _*_, _-_, _^_}
 use lib.Dec.{leb, ltb, eqb}
 use lib.ListN.{length, getD, drop}
-use Rattle.terms.specs.Test.{any, tabulate}
+use Rattle.terms.specs.Test.{any, tabulate, joined}
 use Rattle.terms.specs.Refusal.{_when_, first}
 use Rattle.terms.specs.Tree.{preorder, treeOf}
-use Rattle.terms.specs.Grammar.{terminalRank}
+use Rattle.terms.specs.Grammar.{terminalRank, nodeCount}
+use Rattle.terms.specs.Grammar.{Rule as Production}
 use Rattle.terms.specs.Automaton.{mask}
 use Rattle.terms.specs.Relation.{relationAt}
-use Rattle.terms.specs.Form.{valueAt}
-use Rattle.terms.specs.Sheet.{nodesOf, transitionsOf, wrapped}
+use Rattle.terms.specs.Form.{Rule, Value, valueAt}
+use Rattle.terms.specs.Sheet.{rulesOf, transitionsOf, wrapped}
 use Rattle.terms.specs.Check.{alphabetRefusal, automatonRefusal, treeRefusal, sheetRefusal, mostNodes}
-use Rattle.terms.specs.FormBytes.{ruleCount, startOf, ruleOffset, formRules, formTree, formRefusal}
+use Rattle.terms.specs.FormBytes.{ruleCount, formLength, formRules, formTree, formRefusal}
 use Rattle.terms.specs.Count.{ownNodes, nodesBefore, sizeOf, capped}
 
 -- Lent slices.
@@ -25,13 +26,21 @@ lentAfter (suc n) written entry = entry
 
 -- Form making and marking.
 
--- how many rules a form of the sheet may take: 16 for each right-side node (01 One-hole form)
+-- how many rules of a form a right-side node may take (01 Unfolding)
+abbrev pub rulesForNode : ℕ
+rulesForNode = 16
+
+-- how many rules a form of a grammar may take: so many for each right-side node (01 Unfolding)
+abbrev pub rulesFor : List Production → ℕ
+rulesFor grammar = rulesForNode * nodeCount grammar
+
+-- how many rules a form of the sheet may take; a form of so many has 4 + 192 · G bytes (01 One-hole form)
 abbrev pub rulesAsked : List ℕ → ℕ
-rulesAsked s = 16 * nodesOf s
+rulesAsked s = rulesFor (rulesOf s)
 
 -- form making: 1 to 16, 17 (01 Refusals)
 unfoldable pub makingRefusal : List ℕ → ℕ → ℕ
-makingRefusal s room = first (sheetRefusal s ∷ 17 when (ltb room (ruleOffset (rulesAsked s))) ∷ [])
+makingRefusal s room = first (sheetRefusal s ∷ 17 when (ltb room (formLength (rulesAsked s))) ∷ [])
 
 -- marking a sheet without a tally: 1 to 16, 17, 19 (01 Refusals)
 unfoldable pub sheetMarkingRefusal : List ℕ → ℕ → ℕ → ℕ
@@ -64,17 +73,33 @@ evaluationRefusal alphabet automaton form numbers = first (
     ∷ 19 when (ltb numbers (ruleCount form))
     ∷ [])
 
--- the relations that evaluation ends with: entry i is that of rule i (01 Mask from the form)
+-- the relations that evaluation ends with: entry i is that of what rule i derives (01 Mask from the form)
 unfoldable pub relationsOf : List ℕ → List ℕ → List ℕ → List ℕ
 relationsOf alphabet automaton form = tabulate (ruleCount form) (relationAt (transitionsOf alphabet automaton) (formRules alphabet form))
 
--- the mask that evaluation answers: bits 0 to 7 of the start's entry (01 Mask from the form)
+-- the mask that evaluation answers: that of the form's tree (01 Mask from the form)
 unfoldable pub formMask : List ℕ → List ℕ → List ℕ → ℕ
-formMask alphabet automaton form = relationAt (transitionsOf alphabet automaton) (formRules alphabet form) (startOf form) % 2 ^ 8
+formMask alphabet automaton form = mask (transitionsOf alphabet automaton) (formTree alphabet form)
 
--- size, which lends 2 · R numbers (01 Refusals)
+-- how many counts a rule has (01 Unfolding)
+abbrev pub countsPerRule : ℕ
+countsPerRule = 2
+
+-- the counts of a rule, from what it derives: its node count, and that of the nodes before its hole (01 Unfolding)
+abbrev pub valueCounts : Value → List ℕ
+valueCounts value = capped (ownNodes value) ∷ capped (nodesBefore value) ∷ []
+
+-- the counts of rules, one rule behind the other (01 Unfolding)
+unfoldable pub rulesCounts : List Rule → List ℕ
+rulesCounts rules = joined (length rules) (λ i. valueCounts (valueAt rules i))
+
+-- the counts that size, label and unfolding end with (01 Unfolding)
+abbrev pub countsOf : List ℕ → List ℕ → List ℕ
+countsOf alphabet form = rulesCounts (formRules alphabet form)
+
+-- size, which lends a number for each count of R rules (01 Refusals)
 unfoldable pub sizeRefusal : List ℕ → List ℕ → ℕ → ℕ
-sizeRefusal alphabet form numbers = first (openingRefusal alphabet form ∷ 19 when (ltb numbers (2 * ruleCount form)) ∷ [])
+sizeRefusal alphabet form numbers = first (openingRefusal alphabet form ∷ 19 when (ltb numbers (countsPerRule * ruleCount form)) ∷ [])
 
 -- unfolding into a slice (01 Refusals)
 unfoldable pub unfoldingRefusal : List ℕ → List ℕ → ℕ → ℕ → ℕ
@@ -90,12 +115,6 @@ labelRefusal alphabet form position numbers = first (
 -- the terminal at a preorder position, the root being 0 (01 Size, label)
 unfoldable pub labelAt : List ℕ → List ℕ → ℕ → ℕ
 labelAt alphabet form position = getD (preorder (formTree alphabet form)) position 0
-
--- the counts that size, label and unfolding end with: entry 2 · i is rule i's node count, entry 2 · i + 1 that of the nodes before its hole (01 Unfolding)
-unfoldable pub countsOf : List ℕ → List ℕ → List ℕ
-countsOf alphabet form =
-    let value = valueAt (formRules alphabet form) in
-    tabulate (2 * ruleCount form) (λ k. capped (cond (eqb (k % 2) 0) (ownNodes (value (k / 2))) (nodesBefore (value (k / 2)))))
 
 -- The plain walk and wrap.
 

@@ -1,33 +1,31 @@
 -- Demand 3: one claim about a sheet and form making, evaluation, unfolding and the plain walk in turn (document 01, "Unfolding").
-use mathlib.Core.Logic.{_↔_}
 use mathlib.Core.Path.{_≡_}
-use mathlib.Core.Bool.{true}
 use mathlib.Core.List.{List}
 use Prim.Native.Nat.{ℕ, _*_, _≤_}
 use Rattle.terms.specs.Tree.{preorder}
-use Rattle.terms.specs.Automaton.{Run, has}
-use Rattle.terms.specs.Sheet.{alphabetOf, automatonOf, nodesOf, transitionsOf, sheetTree}
-use Rattle.terms.specs.FormBytes.{ruleCount, ruleOffset, formTree, formRefusal}
+use Rattle.terms.specs.Sheet.{alphabetOf, automatonOf, transitionsOf, sheetTree}
+use Rattle.terms.specs.FormBytes.{ruleCount, formLength, formTree, formRefusal}
+use Rattle.terms.specs.Runs.{TreeRuns}
 use Rattle.terms.specs.Count.{sizeOf}
-use Rattle.terms.specs.Calls.{rulesAsked, makingRefusal, evaluationRefusal, formMask, unfoldingRefusal, mostWalked, walkRefusal, walkMask}
+use Rattle.terms.specs.Calls.{rulesAsked, makingRefusal, evaluationRefusal, formMask, countsPerRule, unfoldingRefusal, mostWalked, walkRefusal, walkMask}
 
 -- the form is valid for the sheet's alphabet, derives exactly the sheet's tree, and has at most 16 rules for each right-side node (01 Unfolding)
 pub record FormOfSheet (sheet form : List ℕ) : Type 0 where
   pub valid : formRefusal (alphabetOf sheet) form ≡ 0
   pub tree : formTree (alphabetOf sheet) form ≡ sheetTree sheet
-  pub few : ruleCount form ≤ 16 * nodesOf sheet
+  pub few : ruleCount form ≤ rulesAsked sheet
 
 -- the mask has bit q exactly where a run of the sheet's automaton on the sheet's tree ends in q at the root (01 Derived tree and run)
 abbrev pub MaskOfRuns : List ℕ → ℕ → Type 0
-MaskOfRuns sheet mask = (q : ℕ) → (has mask q ≡ true) ↔ Run (transitionsOf (alphabetOf sheet) (automatonOf sheet)) (sheetTree sheet) q
+MaskOfRuns sheet mask = TreeRuns (transitionsOf (alphabetOf sheet) (automatonOf sheet)) (sheetTree sheet) mask
 
 -- the claim about a sheet and its form, on the definitions alone: what the calls refuse and answer, however long the slices that are lent beyond what is asked (01 Unfolding)
 pub record Demand3 (sheet form : List ℕ) : Type 0 where
-  pub made : (room : ℕ) → ruleOffset (rulesAsked sheet) ≤ room → makingRefusal sheet room ≡ 0
+  pub made : (room : ℕ) → formLength (rulesAsked sheet) ≤ room → makingRefusal sheet room ≡ 0
   pub formed : FormOfSheet sheet form
   pub evaluated : (numbers : ℕ) → ruleCount form ≤ numbers → evaluationRefusal (alphabetOf sheet) (automatonOf sheet) form numbers ≡ 0
   pub mask : MaskOfRuns sheet (formMask (alphabetOf sheet) (automatonOf sheet) form)
-  pub unfolded : (numbers room : ℕ) → 2 * ruleCount form ≤ numbers → sizeOf (sheetTree sheet) ≤ room → unfoldingRefusal (alphabetOf sheet) form numbers room ≡ 0
+  pub unfolded : (numbers room : ℕ) → countsPerRule * ruleCount form ≤ numbers → sizeOf (sheetTree sheet) ≤ room → unfoldingRefusal (alphabetOf sheet) form numbers room ≡ 0
   pub written : preorder (formTree (alphabetOf sheet) form) ≡ preorder (sheetTree sheet)
   pub walked : sizeOf (sheetTree sheet) ≤ mostWalked → (room : ℕ) → sizeOf (sheetTree sheet) ≤ room
       → walkRefusal (alphabetOf sheet) (automatonOf sheet) (preorder (sheetTree sheet)) room ≡ 0

@@ -1,9 +1,9 @@
 -- The bytes of a one-hole form (document 01, "One-hole form").
 use mathlib.Core.Bool.{Bool, false, cond, not, _&&_}
 use mathlib.Core.List.{List, [], _∷_, _++_}
-use Prim.Native.Nat.{ℕ, zero, suc, _+_, _*_, _-_, _%_}
+use Prim.Native.Nat.{ℕ, zero, suc, _+_, _*_, _-_, _/_, _%_}
 use lib.Dec.{ltb, eqb}
-use lib.ListN.{length, getD}
+use lib.ListN.{length, getD, drop}
 use Rattle.terms.specs.Test.{every, tabulate}
 use Rattle.terms.specs.Refusal.{_when_, outside}
 use Rattle.terms.specs.Bytes.{word, wordBytes}
@@ -11,7 +11,19 @@ use Rattle.terms.specs.Tree.{Tree}
 use Rattle.terms.specs.Grammar.{terminalRank}
 use Rattle.terms.specs.Form.{Rule, whole, pierced, filled, composed, treeIn, valueAt}
 
--- What the bytes say.
+-- The parts of a form: its head, which has the number of its rules and its start, and the table of its rules.
+
+-- how many bytes the head has (01 One-hole form)
+abbrev pub headLength : ℕ
+headLength = 4
+
+-- how many bytes a rule has (01 One-hole form)
+abbrev pub ruleLength : ℕ
+ruleLength = 12
+
+-- the length of a form of R rules (01 One-hole form)
+abbrev pub formLength : ℕ → ℕ
+formLength count = headLength + ruleLength * count
 
 -- the number R of rules (01 One-hole form)
 abbrev pub ruleCount : List ℕ → ℕ
@@ -21,17 +33,23 @@ ruleCount form = word form 0
 abbrev pub startOf : List ℕ → ℕ
 startOf form = word form 2
 
--- where rule i begins; a form of i rules ends there (01 One-hole form)
-abbrev pub ruleOffset : ℕ → ℕ
-ruleOffset i = 4 + 12 * i
+-- the table of the rules, which stands behind the head (01 One-hole form)
+abbrev pub tableOf : List ℕ → List ℕ
+tableOf form = drop headLength form
+
+-- What the bytes of a table say. Rule i begins at its byte 12 · i.
+
+-- how many rules a table has (01 One-hole form)
+abbrev pub tableCount : List ℕ → ℕ
+tableCount table = length table / ruleLength
 
 -- byte k of rule i: kind, terminal, hole, 00 (01 One-hole form)
 abbrev pub ruleByte : List ℕ → ℕ → ℕ → ℕ
-ruleByte form i k = getD form (ruleOffset i + k) 0
+ruleByte table i k = getD table (ruleLength * i + k) 0
 
 -- slot j of rule i, counted from 0 (01 One-hole form)
 abbrev pub slotOf : List ℕ → ℕ → ℕ → ℕ
-slotOf form i j = word form (ruleOffset i + (4 + 2 * j))
+slotOf table i j = word table (ruleLength * i + (4 + 2 * j))
 
 -- the rank of the rules of a kind: 0 for kinds 0 and 2, 1 for kinds 1 and 3 (01 One-hole form)
 abbrev pub kindRank : ℕ → ℕ
@@ -39,7 +57,7 @@ kindRank kind = kind % 2
 
 -- the rank of rule i (01 One-hole form)
 abbrev pub rankAt : List ℕ → ℕ → ℕ
-rankAt form i = kindRank (ruleByte form i 0)
+rankAt table i = kindRank (ruleByte table i 0)
 
 -- a rule by its kind: terminal f of rank n, the open place at child h, slots by their places (01 One-hole form)
 abbrev pub ruleOfKind : ℕ → ℕ → ℕ → ℕ → (ℕ → ℕ) → Rule
@@ -49,14 +67,18 @@ ruleOfKind (suc (suc zero)) f n h slot = filled (slot 0) (slot 1)
 ruleOfKind (suc (suc (suc kind))) f n h slot = composed (slot 0) (slot 1)
 
 -- rule i, its terminal read against the alphabet (01 One-hole form)
-unfoldable pub formRule : List ℕ → List ℕ → ℕ → Rule
-formRule alphabet form i =
-    let f = ruleByte form i 1 in
-    ruleOfKind (ruleByte form i 0) f (terminalRank alphabet f) (ruleByte form i 2) (slotOf form i)
+unfoldable pub tableRule : List ℕ → List ℕ → ℕ → Rule
+tableRule alphabet table i =
+    let f = ruleByte table i 1 in
+    ruleOfKind (ruleByte table i 0) f (terminalRank alphabet f) (ruleByte table i 2) (slotOf table i)
 
--- the rules (01 One-hole form)
-unfoldable pub formRules : List ℕ → List ℕ → List Rule
-formRules alphabet form = tabulate (ruleCount form) (formRule alphabet form)
+-- the rules of a table (01 One-hole form)
+unfoldable pub tableRules : List ℕ → List ℕ → List Rule
+tableRules alphabet table = tabulate (tableCount table) (tableRule alphabet table)
+
+-- the rules of a form (01 One-hole form)
+abbrev pub formRules : List ℕ → List ℕ → List Rule
+formRules alphabet form = tableRules alphabet (tableOf form)
 
 -- the tree that the form derives: that of its start (01 One-hole form)
 unfoldable pub formTree : List ℕ → List ℕ → Tree
@@ -66,7 +88,7 @@ formTree alphabet form = treeIn (valueAt (formRules alphabet form) (startOf form
 
 -- a is the number of a rule below i that has the rank k (01 One-hole form)
 abbrev pub callsLower : List ℕ → ℕ → ℕ → ℕ → Bool
-callsLower form i k a = ltb a i && eqb (rankAt form a) k
+callsLower table i k a = ltb a i && eqb (rankAt table a) k
 
 -- what stands in a slot that is not used (01 One-hole form)
 abbrev pub unused : ℕ
@@ -78,33 +100,33 @@ unusedSlot a = eqb a unused
 
 -- slot j of rule i, f(A1..An), the open place at child h, 0 where there is none: used, it has rank 0 (01 One-hole form)
 abbrev pub slotFits : List ℕ → ℕ → ℕ → ℕ → ℕ → Bool
-slotFits form i n h j = cond (ltb j n && not (eqb (suc j) h)) (callsLower form i 0 (slotOf form i j)) (unusedSlot (slotOf form i j))
+slotFits table i n h j = cond (ltb j n && not (eqb (suc j) h)) (callsLower table i 0 (slotOf table i j)) (unusedSlot (slotOf table i j))
 
 -- the slots of f(A1..An) all fit (01 One-hole form)
 abbrev pub slotsFit : List ℕ → ℕ → ℕ → ℕ → Bool
-slotsFit form i n h = every 4 (slotFits form i n h)
+slotsFit table i n h = every 4 (slotFits table i n h)
 
 -- kinds 2 and 3: no terminal, no hole, B of rank 1 and C of rank k (01 One-hole form)
 abbrev pub chainFits : List ℕ → ℕ → ℕ → ℕ → ℕ → Bool
-chainFits form i f h k =
+chainFits table i f h k =
     eqb f 0xFF
     && (eqb h 0
-    && (callsLower form i 1 (slotOf form i 0)
-    && (callsLower form i k (slotOf form i 1) && (unusedSlot (slotOf form i 2) && unusedSlot (slotOf form i 3)))))
+    && (callsLower table i 1 (slotOf table i 0)
+    && (callsLower table i k (slotOf table i 1) && (unusedSlot (slotOf table i 2) && unusedSlot (slotOf table i 3)))))
 
 -- a rule by its kind: terminal f of rank n, below the number t of terminals, and hole h (01 One-hole form)
 abbrev pub kindFits : List ℕ → ℕ → ℕ → ℕ → ℕ → ℕ → ℕ → Bool
-kindFits form i zero t f n h = ltb f t && (eqb h 0 && slotsFit form i n h)
-kindFits form i (suc zero) t f n h = ltb f t && (not (outside 1 n h) && slotsFit form i n h)
-kindFits form i (suc (suc zero)) t f n h = chainFits form i f h 0
-kindFits form i (suc (suc (suc zero))) t f n h = chainFits form i f h 1
-kindFits form i (suc (suc (suc (suc kind)))) t f n h = false
+kindFits table i zero t f n h = ltb f t && (eqb h 0 && slotsFit table i n h)
+kindFits table i (suc zero) t f n h = ltb f t && (not (outside 1 n h) && slotsFit table i n h)
+kindFits table i (suc (suc zero)) t f n h = chainFits table i f h 0
+kindFits table i (suc (suc (suc zero))) t f n h = chainFits table i f h 1
+kindFits table i (suc (suc (suc (suc kind)))) t f n h = false
 
 -- rule i keeps the section's rules for the alphabet (01 One-hole form)
 unfoldable pub ruleFits : List ℕ → List ℕ → ℕ → Bool
-ruleFits alphabet form i =
-    let f = ruleByte form i 1 in
-    eqb (ruleByte form i 3) 0 && kindFits form i (ruleByte form i 0) (length alphabet) f (terminalRank alphabet f) (ruleByte form i 2)
+ruleFits alphabet table i =
+    let f = ruleByte table i 1 in
+    eqb (ruleByte table i 3) 0 && kindFits table i (ruleByte table i 0) (length alphabet) f (terminalRank alphabet f) (ruleByte table i 2)
 
 -- the most rules of a form (01 One-hole form)
 abbrev pub mostFormRules : ℕ
@@ -114,8 +136,8 @@ mostFormRules = 2048
 unfoldable pub validFor : List ℕ → List ℕ → Bool
 validFor alphabet form =
     not (outside 1 mostFormRules (ruleCount form))
-    && (eqb (length form) (ruleOffset (ruleCount form))
-    && (callsLower form (ruleCount form) 0 (startOf form) && every (ruleCount form) (ruleFits alphabet form)))
+    && (eqb (length form) (formLength (ruleCount form))
+    && (callsLower (tableOf form) (ruleCount form) 0 (startOf form) && every (ruleCount form) (ruleFits alphabet (tableOf form))))
 
 -- the refusal 18 of a form (01 One-hole form)
 unfoldable pub formRefusal : List ℕ → List ℕ → ℕ
@@ -123,7 +145,7 @@ formRefusal alphabet form = 18 when (not (validFor alphabet form))
 
 -- How a form is written.
 
--- the 12 bytes of a rule: kind, terminal, hole, 00 and four slots; those past the list are not used (01 One-hole form)
+-- the bytes of a rule: kind, terminal, hole, 00 and four slots; those past the list are not used (01 One-hole form)
 abbrev pub bytesWith : ℕ → ℕ → ℕ → List ℕ → List ℕ
 bytesWith kind terminal hole slots =
     kind ∷ terminal ∷ hole ∷ 0
@@ -152,7 +174,7 @@ unfoldable pub rulesBytes : List Rule → List ℕ
 rulesBytes [] = []
 rulesBytes (r ∷ rules) = ruleBytes r ++ rulesBytes rules
 
--- the 4 bytes of a head: how many rules there are, and the start (01 One-hole form)
+-- the bytes of a head: how many rules there are, and the start (01 One-hole form)
 abbrev pub headBytes : ℕ → ℕ → List ℕ
 headBytes count start = wordBytes count ++ wordBytes start
 

@@ -1,6 +1,6 @@
 -- Tests over the elements of a list and over the numbers below a bound, and lists by their places. They are general: no document defines them.
 use mathlib.Core.Bool.{Bool, true, false, _&&_, _||_}
-use mathlib.Core.List.{List, [], _∷_}
+use mathlib.Core.List.{List, [], _∷_, _++_}
 use Prim.Native.Nat.{ℕ, zero, suc}
 
 -- some element of the list passes the test
@@ -27,3 +27,8 @@ every (suc n) p = p n && every n p
 unfoldable pub tabulate : {A : Type 0} → ℕ → (ℕ → A) → List A
 tabulate zero f = []
 tabulate (suc n) f = f 0 ∷ tabulate n (λ i. f (suc i))
+
+-- the lists f 0, f 1 and so on, n in all, one behind the other
+unfoldable pub joined : {A : Type 0} → ℕ → (ℕ → List A) → List A
+joined zero f = []
+joined (suc n) f = joined n f ++ f n

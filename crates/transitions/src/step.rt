@@ -68,7 +68,23 @@ fn walk(automaton: &[u8], links: &[u8; 511], terminal: Terminal, sets: &[u8], ho
     pairs
 }
 
-// The states that a node can take, whose children can take the sets of states. Only as many sets are read as the terminal's rank.
+// The states that a node can take, whose children can take the lent sets of states. Only as many sets are read as the terminal's rank.
+pub fn step_from(
+    alphabet: &[u8],
+    automaton: &[u8],
+    links: &[u8; 511],
+    terminal: Terminal,
+    sets: &[u8],
+) -> u8
+    requires { ⌜ Ready (now alphabet) (now automaton) (now links) (terminal .0) × (length (now sets) ≡ 4) ⌝ }
+    ensures { λ r. ⌜ r ≡ closedStep (now (alphabet .entry)) (now (automaton .entry)) (terminal .0) (now (sets .entry)) ⌝ }
+{
+    let at = terminal.0 as usize;
+    let rank = alphabet[at] as usize;
+    (walk(automaton, links, terminal, &sets[..rank], rank) % 256) as u8
+}
+
+// The same where the sets are given by value.
 pub fn step_closed(
     alphabet: &[u8],
     automaton: &[u8],
@@ -79,9 +95,7 @@ pub fn step_closed(
     requires { ⌜ Ready (now alphabet) (now automaton) (now links) (terminal .0) ⌝ }
     ensures { λ r. ⌜ r ≡ closedStep (now (alphabet .entry)) (now (automaton .entry)) (terminal .0) sets ⌝ }
 {
-    let at = terminal.0 as usize;
-    let rank = alphabet[at] as usize;
-    (walk(automaton, links, terminal, &sets[..rank], rank) % 256) as u8
+    step_from(alphabet, automaton, links, terminal, &sets)
 }
 
 // The relation of a node whose child at the hole, counted from 0, is its open place. The set at the hole is not read.

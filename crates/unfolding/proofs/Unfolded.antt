@@ -1,5 +1,5 @@
 -- Unfolding a form that derives a tree, with slices that are long enough.
-use mathlib.Core.Path.{_≡_, ap, _∙_}
+use mathlib.Core.Path.{_≡_}
 use mathlib.Core.List.{List}
 use Prim.Native.Nat.{ℕ}
 use lib.ListN.{length, take}
@@ -7,16 +7,14 @@ use lib.Seq.{take-append-seam}
 use Rattle.terms.specs.Tree.{Tree, preorder}
 use Rattle.terms.specs.FormBytes.{formTree}
 use Rattle.terms.specs.Count.{sizeOf}
+use Rattle.terms.specs.Answer.{Answer, answered}
 use Rattle.terms.specs.Calls.{unfoldingRefusal}
-use Rattle.unfolding.specs.Unfolding.{unfolded}
-use Rattle.unfolding.specs.declared.unfold.Unfolding.{Unfolding}
-use Rattle.unfolding.specs.declared.unfold.Unfolding.the-variants.{Written}
 use Rattle.unfolding.specs.Unfolding.{Unfolded}
 
-module _ {alphabet form : List ℕ} {r : Unfolding} {counts′ counts tree′ tree : List ℕ} (u : Unfolded alphabet form r counts′ counts tree′ tree)
+module _ {alphabet form : List ℕ} {r : Answer ℕ} {counts′ counts tree′ tree : List ℕ} (u : Unfolded alphabet form r counts′ counts tree′ tree)
     (t : Tree) (derives : formTree alphabet form ≡ t) (passes : unfoldingRefusal alphabet form (length counts) (length tree) ≡ 0) where
-  pub unfolds : r ≡ Written (sizeOf t)
-  unfolds = u .answered ∙ ap (λ z. unfolded z (sizeOf (formTree alphabet form))) passes ∙ ap (λ (s : Tree). Written (sizeOf s)) derives
+  pub unfolds : r ≡ answered (sizeOf t)
+  unfolds = rw (passes, derives) at (u .answered)
 
   pub tree-first : take (sizeOf t) tree′ ≡ preorder t
   tree-first = rw (u .written, passes, derives) (take-append-seam (preorder t) _)

@@ -1,2 +1,1 @@
 pub mod Unfolding
-pub mod Private

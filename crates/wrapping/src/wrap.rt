@@ -1,27 +1,23 @@
 // Wrapping a plain tree into a sheet of one rule.
+use automata::check::check_automaton;
 use checks::alphabet::check_alphabet;
-use checks::automaton::check_automaton;
 use checks::bytes::copy_at;
 use checks::limits::CONTENTS;
 use checks::limits::MOST_NODES;
 use checks::tree::check_tree;
 use sheet_bytes::write::write_sheet;
+use terms::answers::LengthAnswer;
 ghost use mathlib.Core.Path.{_≡_};
 ghost use mathlib.Core.List.{_∷_};
 ghost use Prim.Native.Nat.{_+_, _≤_};
 ghost use lib.ListN.{length, take};
+ghost use Rattle.terms.specs.Answer.{answer, answerOfLength};
 ghost use Rattle.terms.specs.Sheet.{wrapped};
 ghost use Rattle.terms.specs.Calls.{lentAfter, wrapRefusal};
 ghost use Rattle.sheet_bytes.specs.Put.{Put};
-ghost use Rattle.wrapping.specs.Wrap.{wrapping};
 
 // How many bytes stand before the nodes of a rule: its rank, and the number of its nodes.
 const BEFORE_NODES: usize = 2;
-
-pub enum Wrapping {
-    Refused(u8),
-    Written(usize),
-}
 
 // What is refused of alphabet, tree, automaton and the length of the slice; 0 where nothing is.
 fn wrap_refusal(alphabet: &[u8], tree: &[u8], automaton: &[u8], room: usize) -> u8
@@ -67,13 +63,13 @@ fn wrap_into(alphabet: &[u8], tree: &[u8], automaton: &[u8], sheet: &mut [u8]) -
 }
 
 // A sheet whose tree is the tree given, into a lent slice.
-pub fn wrap(alphabet: &[u8], tree: &[u8], automaton: &[u8], sheet: &mut [u8]) -> Wrapping
-    ensures { λ r. ⌜ r ≡ wrapping (now (alphabet .entry)) (now (tree .entry)) (now (automaton .entry)) (length (now (sheet .entry))) ⌝ }
+pub fn wrap(alphabet: &[u8], tree: &[u8], automaton: &[u8], sheet: &mut [u8]) -> LengthAnswer
+    ensures { λ r. ⌜ answerOfLength r ≡ answer (wrapRefusal (now (alphabet .entry)) (now (tree .entry)) (now (automaton .entry)) (length (now (sheet .entry)))) (length (wrapped (now (alphabet .entry)) (now (tree .entry)) (now (automaton .entry)))) ⌝ }
     ensures { λ r. ⌜ now (sheet .exit) ≡ lentAfter (wrapRefusal (now (alphabet .entry)) (now (tree .entry)) (now (automaton .entry)) (length (now (sheet .entry)))) (wrapped (now (alphabet .entry)) (now (tree .entry)) (now (automaton .entry))) (now (sheet .entry)) ⌝ }
 {
     let refused = wrap_refusal(alphabet, tree, automaton, sheet.len());
     if refused != 0 {
-        return Wrapping::Refused(refused);
+        return LengthAnswer::Refused(refused);
     }
-    Wrapping::Written(wrap_into(alphabet, tree, automaton, sheet))
+    LengthAnswer::Written(wrap_into(alphabet, tree, automaton, sheet))
 }

@@ -1,14 +1,15 @@
--- The counts that are lent: two for each rule.
+-- The counts that are lent: those of a rule stand together, one rule behind the other.
 use mathlib.Core.Path.{_≡_}
 use mathlib.Core.List.{List, [], _∷_}
 use Prim.Native.Nat.{ℕ, _+_, _*_, _-_, _≤_, _<_}
 use lib.ListN.{length, getD, take}
-use Rattle.terms.specs.Test.{tabulate}
-use Rattle.terms.specs.Form.{Rule, whole, pierced, filled, composed}
-use Rattle.terms.specs.FormBytes.{ruleCount, ruleOffset, slotOf, formRefusal}
-use Rattle.terms.specs.Check.{alphabetRefusal}
+use lib.Seq.{sets}
+use Rattle.terms.specs.Test.{tabulate, joined}
+use Rattle.terms.specs.Form.{Rule, whole, pierced, filled, composed, valueAt}
+use Rattle.terms.specs.FormBytes.{ruleLength, tableCount, slotOf, tableRules}
 use Rattle.terms.specs.Count.{capped}
-use Rattle.terms.specs.Calls.{countsOf}
+use Rattle.terms.specs.Calls.{countsPerRule, valueCounts, rulesCounts}
+use Rattle.forms.specs.Private.Table.{ValidTable}
 
 -- the sum of the counts of the rules that are named
 abbrev pub total : (ℕ → ℕ) → List ℕ → ℕ
@@ -29,19 +30,30 @@ beforeBy own prior (pierced f ls rs) = 1 + total own ls
 beforeBy own prior (filled b c) = 0
 beforeBy own prior (composed b c) = prior b + prior c
 
--- how many nodes rule a derives, by the counts (01 Unfolding)
+-- the counts of rule i are there (01 Unfolding)
+abbrev pub HasCounts : List ℕ → ℕ → Type 0
+HasCounts counts i = countsPerRule * i + countsPerRule ≤ length counts
+
+-- how many nodes rule i derives, by the counts (01 Unfolding)
 abbrev pub ownIn : List ℕ → ℕ → ℕ
-ownIn counts a = getD counts (2 * a) 0
+ownIn counts i = getD counts (countsPerRule * i) 0
 
 -- how many of them stand before its open place, by the counts (01 Unfolding)
 abbrev pub beforeIn : List ℕ → ℕ → ℕ
-beforeIn counts a = getD counts (2 * a + 1) 0
+beforeIn counts i = getD counts (countsPerRule * i + 1) 0
 
--- a form that is not refused, and numbers that begin with the counts of its rules (01 Unfolding)
-pub record CountedForm (alphabet form counts : List ℕ) : Type 0 where
-  pub ranked : alphabetRefusal alphabet ≡ 0
-  pub valid : formRefusal alphabet form ≡ 0
-  pub counted : take (2 * ruleCount form) counts ≡ countsOf alphabet form
+-- the counts with those of rule i written (01 Unfolding)
+abbrev pub countsWritten : List ℕ → ℕ → List ℕ → List ℕ
+countsWritten counts i written = sets counts (countsPerRule * i) written
+
+-- the counts of the rules below n (01 Unfolding)
+abbrev pub countsBelow : List Rule → ℕ → List ℕ
+countsBelow rules n = joined n (λ i. valueCounts (valueAt rules i))
+
+-- the table of a form that is not refused, and numbers that begin with the counts of its rules (01 Unfolding)
+pub record CountedTable (alphabet table counts : List ℕ) : Type 0 where
+  pub valid : ValidTable alphabet table
+  pub counted : take (countsPerRule * tableCount table) counts ≡ rulesCounts (tableRules alphabet table)
 
 -- n and m are the counts of a rule, capped, by those of lower rules (01 Unfolding)
 pub record CountedRule (counts : List ℕ) (rule : Rule) (n m : ℕ) : Type 0 where
@@ -52,9 +64,9 @@ pub record CountedRule (counts : List ℕ) (rule : Rule) (n m : ℕ) : Type 0 wh
 abbrev pub slotsFrom : (ℕ → ℕ) → ℕ → ℕ → List ℕ
 slotsFrom slot from to = tabulate (to - from) (λ j. slot (from + j))
 
--- the slots from one up to another of rule i are in the form, and name rules that have counts (01 Unfolding)
-pub record Readable (form counts : List ℕ) (i from to : ℕ) : Type 0 where
-  pub long : ruleOffset i + 12 ≤ length form
+-- the slots from one up to another of rule i are in the table, and name rules that have counts (01 Unfolding)
+pub record Readable (table counts : List ℕ) (i from to : ℕ) : Type 0 where
+  pub long : ruleLength * i + ruleLength ≤ length table
   pub order : from ≤ to
   pub few : to ≤ 4
-  pub low : (j : ℕ) → from ≤ j → j < to → 2 * slotOf form i j < length counts
+  pub low : (j : ℕ) → from ≤ j → j < to → HasCounts counts (slotOf table i j)

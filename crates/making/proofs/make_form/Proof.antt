@@ -1,8 +1,10 @@
 -- `making::make_form` meets its contract: the tests are those of the refusal, in its order.
-use mathlib.Core.Path.{refl, sym, _∙_}
+use mathlib.Core.Path.{sym, ap, _∙_}
 use native.Mathlib.Omega.{arith}
-use Rattle.making.proofs.SheetRead.{sheet-refused, sheet-read, few-nodes, too-short, long-enough}
+use Rattle.making.proofs.SheetRead.{sheet-refused, SheetRead, sheet-read, too-short, long-enough, none-made, form-made}
 use borrow.Author.Needs.{needs}
+use Rattle.sheets.specs.Sheet.{answerOfReading}
+use denote.Ref.{now}
 use Rattle.making.proofs.make_form.Statement.{statement}
 use Rattle.making.proofs.make_form.Tie as tie
 
@@ -15,40 +17,29 @@ enum-known-n c = search needs
 enum-known-layout : tie.Need-enum-known-layout
 enum-known-layout c = search needs
 
-mul-if1 : tie.Need-mul-if1
-mul-if1 c =
-    let layout = c .before .before in
-    let read = sheet-read _ _ (sym (layout .before .before .read-sheet .ensures) ∙ layout .layout .given .1) in
-    omega (arith, few-nodes read)
+-- the sheet that was read
+known : (c : tie.After-layout) → SheetRead (now (c .before .before .before .before .before .args .sheet)) (c .layout .given .0 .0)
+known c = sheet-read _ _ (sym (c .before .before .read-sheet .ensures) ∙ ap answerOfReading (c .layout .given .1))
 
-mul-if1-2 : tie.Need-mul-if1-2
-mul-if1-2 c =
-    let layout = c .before .before in
-    let read = sheet-read _ _ (sym (layout .before .before .read-sheet .ensures) ∙ layout .layout .given .1) in
-    omega (arith, few-nodes read)
+mul-if1 : tie.Need-mul-if1
+mul-if1 c = omega (arith, known (c .before .before) .small)
 
 add-if1 : tie.Need-add-if1
-add-if1 c =
-    let layout = c .before .before in
-    let read = sheet-read _ _ (sym (layout .before .before .read-sheet .ensures) ∙ layout .layout .given .1) in
-    omega (arith, few-nodes read)
+add-if1 c = omega (arith, known (c .before .before) .small)
 
 returns : tie.Need-returns
-returns c =
-    let layout = c .before .before .before in
-    let read = sheet-read _ _ (sym (layout .before .before .read-sheet .ensures) ∙ layout .layout .given .1) in
-    (too-short read _ (c .if1 .taken), (omega arith, refl))
+returns c = none-made _ _ _ (too-short (known (c .before .before .before)) _ (c .if1 .taken)) (omega arith)
 
 make-read-requires : tie.Need-make-read-requires
 make-read-requires c κs =
     let layout = c .before .before .before .before in
-    record { read = sym (layout .before .before .read-sheet .ensures) ∙ layout .layout .given .1; fits = c .before .if1 .left }
+    record { read = sym (layout .before .before .read-sheet .ensures) ∙ ap answerOfReading (layout .layout .given .1); fits = c .before .if1 .left }
 
 returns-2 : tie.Need-returns-2
 returns-2 c =
     let n = c .before in
-    let refused = sheet-refused _ _ _ (sym (n .before .before .read-sheet .ensures) ∙ n .n .given .1) in
-    (refused .0, (refused .1, refl))
+    let refused = sheet-refused _ _ _ (sym (n .before .before .read-sheet .ensures) ∙ ap answerOfReading (n .n .given .1)) in
+    none-made _ _ _ (refused .0) (refused .1)
 
 same-length : tie.Need-same-length
 same-length c = search needs
@@ -57,9 +48,7 @@ returns-3 : tie.Need-returns-3
 returns-3 c =
     let call = c .before .before in
     let room = call .before .before in
-    let layout = room .before .before .before in
-    let read = sheet-read _ _ (sym (layout .before .before .read-sheet .ensures) ∙ layout .layout .given .1) in
-    (long-enough read _ (room .if1 .left), call .make-read .ensures)
+    form-made _ _ (long-enough (known (room .before .before .before)) _ (room .if1 .left)) (call .make-read .ensures)
 
 pub make-form-spec : {M : Type 1} → statement M
 make-form-spec =
@@ -69,7 +58,6 @@ make-form-spec =
     enum-known-n
     enum-known-layout
     mul-if1
-    mul-if1-2
     add-if1
     returns
     make-read-requires

@@ -32,9 +32,10 @@ part-write-form-end-2 c = omega (arith, parts-there (known (c .before .before)))
 
 write-form-requires : tie.Need-write-form-requires
 write-form-requires c κs =
-    let start = c .before .before .before in
-    let read = known start in
-    grammar read _ (start .before .before .before .pre .fits) (alphabet-part read) (rules-part read)
+    let struct = c .before .before .before in
+    let start = struct .before .before .before in
+    let read = known struct in
+    grammar read (start .args .form .now) (start .pre .fits) (alphabet-part read) (rules-part read)
 
 same-length : tie.Need-same-length
 same-length c = search needs

@@ -39,14 +39,16 @@ use denote.Triple.Walked.{says, Stays, stay-none, stay-none-slice, walkOf, goes-
 use denote.Exit.{yes}
 use denote.Triple.Clauses.{ensured, lasts}
 use Rattle.terms.specs.declared.Rule.{Rule}
-use Rattle.forms.specs.Reading.{ruleReading}
-use Rattle.forms.specs.declared.rule.RuleReading.{RuleReading}
+use Rattle.opening.specs.Reading.{answerOfRule, ruleReading}
+use Rattle.terms.specs.Answer.{Answer}
+use Rattle.form_bytes.specs.declared.rule.FormRule.{FormRule}
+use Rattle.opening.specs.declared.RuleReading.{RuleReading}
 use Rattle.opening.specs.Opening.{openedReading}
 use Rattle.opening.specs.declared.OpenForm.{OpenForm}
 use Rattle.terms.proofs.Rule as N
 use Rattle.terms.proofs.Rule.Laws as N′
-use Rattle.forms.proofs.rule.RuleReading as S
-use Rattle.forms.proofs.rule.RuleReading.Laws as S′
+use Rattle.opening.proofs.RuleReading as S
+use Rattle.opening.proofs.RuleReading.Laws as S′
 use Rattle.opening.proofs.Once.{Opened, opened-once}
 use Rattle.opening.proofs.OpenForm as T
 use Rattle.opening.proofs.OpenForm.Laws as T′
@@ -114,7 +116,7 @@ module _ {M : Type 1} (𝓤 : URA M) (H : Heap 𝓤) (A : Atoms 𝓤) (W : Given
   again : ent 𝓤 (sem 𝓤 H A Kept) (sep 𝓤 (sem 𝓤 H A Kept) (sem 𝓤 H A Kept))
   again = twices 𝓤 H A W Types (shr-slice-copy 𝓤 H A W (named 0) κ u8, (shr-slice-copy 𝓤 H A W (named 1) κ′ u8, (LL.copy N.the-type N′.the-copy 𝓤 H A W, tt))) args at
 
-  abbrev found : RuleReading
+  abbrev found : Answer FormRule
   found = ruleReading (now a) (now f) (i .0)
 
   abbrev Post : Val → SProp 𝓤
@@ -148,12 +150,12 @@ module _ {M : Type 1} (𝓤 : URA M) (H : Heap 𝓤) (A : Atoms 𝓤) (W : Given
       use2 W (raw (OfNumber 𝓤 H A mem run .pre (to-rule r u))) (qed W ((‵ (flft κ′ q′) ⊛ ‵ ftrue) ∷ ‵ (owns (B ∷ N.the-row ∷ []) (r, (i, tt)) (u ∷ [], (mi ∷ [], tt))) ∷ []) ∵ join ! $ frame ! $ done !) $ frame ! $ frame ! $ done !
 
   abbrev Answered : OpenForm → RuleReading → Type 0
-  Answered r t = t ≡ openedReading (now (r .form)) (r .rules) (r .refusal) (i .0)
+  Answered r t = answerOfRule t ≡ openedReading (now (r .form)) (r .rules) (r .refusal) (i .0)
 
   rule-said : (r : OpenForm) (t : RuleReading) → ent 𝓤 (ensured 𝓤 H A rule.ended (rule.clauses 𝓤 H A mem run) (κ′, tt) (r, (i, tt)) tt t) (fact 𝓤 (Answered r t))
   rule-said r t = exE 𝓤 _ (λ ws. snd∗ 𝓤 (sem 𝓤 H A (lasts rule.ended (κ′, tt) (r, (i, tt)) ws)) (fact 𝓤 (Answered r t)))
 
-  exits : (t : RuleReading) (u : Val) → t ≡ found → ent 𝓤 (⋆ 𝓤 H A (‵ (S.the-row .own t (u ∷ [])) ∷ (‵ (flft κ′ q′) ⊛ ‵ ftrue) ∷ (‵ (flft κ q) ⊛ ‵ Kept) ∷ [])) (Post u)
+  exits : (t : RuleReading) (u : Val) → answerOfRule t ≡ found → ent 𝓤 (⋆ 𝓤 H A (‵ (S.the-row .own t (u ∷ [])) ∷ (‵ (flft κ′ q′) ⊛ ‵ ftrue) ∷ (‵ (flft κ q) ⊛ ‵ Kept) ∷ [])) (Post u)
   exits t u e =
       qed W (‵ (S.the-row .own t (u ∷ [])) ∷ (‵ (flft κ′ q′) ⊛ ‵ ftrue) ∷ (‵ (flft κ q) ⊛ ‵ Kept) ∷ []) ∵
       suffices ! _ (ends-at 𝓤 H A read.ended stayed (read.clauses 𝓤 H A mem run) W ((κs, qs, tt, args, at), tt) u t (tt, (tt, (tt, tt))) (tt, (tt, (tt, tt)))) $ says ! e $

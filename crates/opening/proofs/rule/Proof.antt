@@ -42,13 +42,16 @@ use denote.Triple.Walked.{says, Stays, stay-none, walkOf, goes-none, Walks, ends
 use denote.Exit.{yes}
 use denote.Triple.Clauses.{ensured, lasts}
 use Rattle.terms.specs.declared.Rule.{Rule}
-use Rattle.forms.specs.declared.rule.RuleReading.{RuleReading}
+use Rattle.terms.specs.Answer.{Answer}
+use Rattle.form_bytes.specs.declared.rule.FormRule.{FormRule}
+use Rattle.opening.specs.declared.RuleReading.{RuleReading}
+use Rattle.opening.specs.Reading.{answerOfRule}
 use Rattle.opening.specs.Opening.{openedReading}
 use Rattle.opening.specs.declared.OpenForm.{OpenForm}
 use Rattle.terms.proofs.Rule as N
 use Rattle.terms.proofs.Rule.Laws as N′
-use Rattle.forms.proofs.rule.RuleReading as S
-use Rattle.forms.proofs.rule.RuleReading.Laws as S′
+use Rattle.opening.proofs.RuleReading as S
+use Rattle.opening.proofs.RuleReading.Laws as S′
 use Rattle.opening.proofs.OpenForm as T
 use Rattle.opening.proofs.OpenForm.Laws as T′
 use Rattle.opening.proofs.rule_of as rule-of
@@ -83,7 +86,7 @@ module _ {M : Type 1} (𝓤 : URA M) (H : Heap 𝓤) (A : Atoms 𝓤) (W : Given
   abbrev at : Vals rule.signature (κ, tt)
   at = (mach ∷ [], (mi ∷ [], tt))
 
-  abbrev found : RuleReading
+  abbrev found : Answer FormRule
   found = openedReading (now (d .form)) (d .rules) (d .refusal) (i .0)
 
   abbrev Post : Val → SProp 𝓤
@@ -129,10 +132,10 @@ module _ {M : Type 1} (𝓤 : URA M) (H : Heap 𝓤) (A : Atoms 𝓤) (W : Given
       move ! (2 ∷ 0 ∷ []) $ use2 W (raw (RuleOf 𝓤 H A mem run .pre to)) asked $ frame ! $ done !)
 
   -- of the callee's `ensured`, the clause alone: it has no `&mut`, so what is said of last values is dropped
-  said : (r : RuleReading) → ent 𝓤 (ensured 𝓤 H A rule-of.ended (rule-of.clauses 𝓤 H A mem run) (κ, tt) args tt r) (fact 𝓤 (r ≡ found))
-  said r = exE 𝓤 _ (λ ws. snd∗ 𝓤 (sem 𝓤 H A (lasts rule-of.ended (κ, tt) args ws)) (fact 𝓤 (r ≡ found)))
+  said : (r : RuleReading) → ent 𝓤 (ensured 𝓤 H A rule-of.ended (rule-of.clauses 𝓤 H A mem run) (κ, tt) args tt r) (fact 𝓤 (answerOfRule r ≡ found))
+  said r = exE 𝓤 _ (λ ws. snd∗ 𝓤 (sem 𝓤 H A (lasts rule-of.ended (κ, tt) args ws)) (fact 𝓤 (answerOfRule r ≡ found)))
 
-  exits : (r : RuleReading) (u : Val) → r ≡ found → ent 𝓤 (⋆ 𝓤 H A (‵ (S.the-row .own r (u ∷ [])) ∷ (‵ (flft κ q) ⊛ ‵ ftrue) ∷ ‵ Kept ∷ [])) (Post u)
+  exits : (r : RuleReading) (u : Val) → answerOfRule r ≡ found → ent 𝓤 (⋆ 𝓤 H A (‵ (S.the-row .own r (u ∷ [])) ∷ (‵ (flft κ q) ⊛ ‵ ftrue) ∷ ‵ Kept ∷ [])) (Post u)
   exits r u e =
       qed W (‵ (S.the-row .own r (u ∷ [])) ∷ (‵ (flft κ q) ⊛ ‵ ftrue) ∷ ‵ Kept ∷ []) ∵
       suffices ! _ (ends-at 𝓤 H A rule.ended stayed (rule.clauses 𝓤 H A mem run) W (((κ, tt), (q, tt), tt, (d, (i, tt)), at), tt) u r (tt, (tt, tt)) (tt, (tt, tt))) $ says ! e $
@@ -150,7 +153,7 @@ module _ {M : Type 1} (𝓤 : URA M) (H : Heap 𝓤) (A : Atoms 𝓤) (W : Given
         move ! (12 ∷ []) $ use1 W (raw (RuleOf 𝓤 H A mem run .pre to) ⊛ ‵ Kept) apart $ split ! $
         calls-at ! fm (RuleOf 𝓤 H A mem run) known to (and-then ! (load ! (from ! (stop !)) (look ! 6 refl)) (and-then ! (load ! (from ! (stop !)) (look ! 4 refl)) (and-then ! (load ! (from ! (stop !)) (look ! 2 refl)) (and-then ! (load ! (from ! (stop !)) (look ! 8 refl)) (no-more !))))) (λ u.
         use1 W (later (some (λ (r : RuleReading). ((‵ (flft κ q) ⊛ ‵ ftrue) ⊛ ‵ (S.the-row .own r (u ∷ []))) ⊛ raw (ensured 𝓤 H A rule-of.ended (rule-of.clauses 𝓤 H A mem run) (κ, tt) args tt r)))) (id⊢ 𝓤 _) $ await ! tt $ pick ! (λ r.
-        split ! $ move ! (1 ∷ []) $ use1 W (raw (fact 𝓤 (r ≡ found))) (said r) $ heard ! (r ≡ found) (λ e. split ! $ move ! (1 ∷ []) $
+        split ! $ move ! (1 ∷ []) $ use1 W (raw (fact 𝓤 (answerOfRule r ≡ found))) (said r) $ heard ! (answerOfRule r ≡ found) (λ e. split ! $ move ! (1 ∷ []) $
         -- [the result; the token; what the parameters own; _5; …; _4; …; _3; …; _2; …; _1; …; room for _0; …]
         peeks ! S.the-row (Is S.the-row) (shows 𝓤 H A S.the-row) r (u ∷ []) (λ is.
         land ! (from ! (stop !)) (init ! 13 refl (EL.lawful S.the-type S′.the-laws 𝓤 H A W tt .typed r _ is .0)) $

@@ -1,16 +1,17 @@
 -- `opening::rule_of` meets its contract: the tests are those of the definition, in its order, and where all are passed the rule stands whole in the bytes.
 use mathlib.Core.Path.{refl}
+use native.Mathlib.Omega.{arith}
 use borrow.Author.Needs.{needs}
 use borrow.Author.Tests.{le-leb, lt-leb, le-ltb, lt-ltb}
-use Rattle.forms.specs.declared.rule.RuleReading.the-variants.{Refused}
-use Rattle.forms.specs.Reading.{orRule}
+use lib.ListN.{length-drop}
+use Rattle.terms.specs.FormBytes.{headLength}
 use Rattle.terms.proofs.Refusal.{is-first}
-use Rattle.forms.proofs.Laws.{refused}
+use Rattle.terms.proofs.Answer.{is-refused}
 use Rattle.opening.proofs.rule_of.Statement.{statement}
 use Rattle.opening.proofs.rule_of.Tie as tie
 
 returns : tie.Need-returns
-returns c = refused Refused orRule (λ n rule. refl) (is-first _ refl (c .if1 .taken)) (c .if1 .taken)
+returns c = is-refused _ (is-first _ refl (c .if1 .taken)) (c .if1 .taken)
 
 cast-place : tie.Need-cast-place
 cast-place c = search needs
@@ -18,28 +19,37 @@ cast-place c = search needs
 returns-2 : tie.Need-returns-2
 returns-2 c = rw (c .before .before .if1 .left, le-leb _ _ (c .if2 .taken))
 
-mul-if3 : tie.Need-mul-if3
-mul-if3 c = search needs
+add-form-length : tie.Need-add-form-length
+add-form-length c = search needs
 
-add-if3 : tie.Need-add-if3
-add-if3 c = search needs
-
-add-if3-2 : tie.Need-add-if3-2
-add-if3-2 c = search needs
+form-length-requires : tie.Need-form-length-requires
+form-length-requires c κs = search needs
 
 returns-3 : tie.Need-returns-3
 returns-3 c =
-    let inside = c .before in
-    rw (inside .before .before .if1 .left, lt-leb _ _ (inside .if2 .left), lt-ltb _ _ (c .if3 .taken))
+    let asked = c .before in
+    let inside = asked .before in
+    rw (inside .before .before .if1 .left, lt-leb _ _ (inside .if2 .left), ← asked .form-length .ensures, lt-ltb _ _ (c .if3 .taken))
+
+table-of-requires : tie.Need-table-of-requires
+table-of-requires c κs = search needs
 
 rule-at-requires : tie.Need-rule-at-requires
-rule-at-requires c κs = search needs
+rule-at-requires c κs = rw (c .table-of .ensures) (omega (arith, c .before .if3 .left, c .before .before .form-length .ensures, length-drop headLength (c .before .before .before .before .before .before .before .args .form .now)))
 
 returns-4 : tie.Need-returns-4
 returns-4 c =
-    let whole = c .before in
-    let inside = whole .before in
-    rw (c .rule-at .ensures, inside .before .before .if1 .left, lt-leb _ _ (inside .if2 .left), le-ltb _ _ (whole .if3 .left))
+    let whole = c .before .before in
+    let asked = whole .before in
+    let inside = asked .before in
+    rw (
+      c .rule-at .ensures,
+      c .before .table-of .ensures,
+      inside .before .before .if1 .left,
+      lt-leb _ _ (inside .if2 .left),
+      ← asked .form-length .ensures,
+      le-ltb _ _ (whole .if3 .left),
+    )
 
 pub rule-of-spec : {M : Type 1} → statement M
-rule-of-spec = tie.close (tie.spec returns cast-place returns-2 mul-if3 add-if3 add-if3-2 returns-3 rule-at-requires returns-4)
+rule-of-spec = tie.close (tie.spec returns cast-place returns-2 add-form-length form-length-requires returns-3 table-of-requires rule-at-requires returns-4)

@@ -32,9 +32,3 @@ pub record Noted (alphabet automaton tree : List ℕ) (at end : ℕ) (before aft
   pub front : (i : ℕ) → i < at → getD after i 0 ≡ getD before i 0
   pub inside : (i : ℕ) → at ≤ i → i < end → getD after i 0 ≡ walkMask alphabet automaton (drop i tree)
   pub behind : (i : ℕ) → end ≤ i → getD after i 0 ≡ getD before i 0
-
--- each node from `at` on and before `bottom` has one child, which in preorder is the next node, and `bottom` is a node too (01 Plain walk)
-pub record OneChildTo (alphabet tree : List ℕ) (at bottom : ℕ) : Type 0 where
-  pub from : at ≤ bottom
-  pub there : bottom < length tree
-  pub one : (i : ℕ) → at ≤ i → i < bottom → terminalRank alphabet (getD tree i 0) ≡ 1

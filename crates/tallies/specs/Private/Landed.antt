@@ -1,9 +1,8 @@
 -- Where a step leaves the tally.
+use Rattle.terms.specs.Answer.{Answer, refused, answered}
 use Rattle.tallies.specs.declared.tally.Tally.{Tally}
-use Rattle.tallies.specs.declared.tally.Step.{Step}
-use Rattle.tallies.specs.declared.tally.Step.the-variants.{Refused, Moved}
 
 -- where a step leaves the tally: as it was where the step is refused (01 Refusals)
-abbrev pub landed : Tally → Step → Tally
-landed t (Refused n) = t
-landed t (Moved next) = next
+abbrev pub landed : Tally → Answer Tally → Tally
+landed t (refused n) = t
+landed t (answered next) = next

@@ -2,16 +2,16 @@
 use mathlib.Core.Path.{_≡_, refl, ap, _∙_}
 use mathlib.Core.Bool.{not, _&&_}
 use mathlib.Core.List.{List, [], _∷_}
-use Prim.Native.Nat.{ℕ, zero, suc, _+_, _-_, _≤_, _<_}
+use Prim.Native.Nat.{ℕ, zero, suc, _+_, _*_, _-_, _≤_, _<_}
 use native.Mathlib.Omega.{arith}
 use lib.Dec.{T, leb, ltb, eqb, ltb→lt, eqb→eq, leb→le}
-use lib.ListN.{length}
+use lib.ListN.{length, length-drop}
 use borrow.Author.Tests.{ltb-false, lt-ltb, ne-eqb, not-false, not-true}
 use Rattle.terms.specs.Test.{all, every, tabulate}
 use Rattle.terms.specs.Refusal.{outside}
 use Rattle.terms.specs.Grammar.{terminalRank}
 use Rattle.terms.specs.Form.{Rule, whole, pierced, ruleAt, holes, Has, Slots, Fits, Valid}
-use Rattle.terms.specs.FormBytes.{ruleCount, startOf, ruleOffset, ruleByte, slotOf, kindRank, rankAt, ruleOfKind, formRule, formRules, callsLower, unusedSlot, slotFits, slotsFit, chainFits, kindFits, ruleFits, validFor, formRefusal}
+use Rattle.terms.specs.FormBytes.{headLength, ruleLength, ruleCount, startOf, tableOf, tableCount, formLength, ruleByte, slotOf, kindRank, rankAt, ruleOfKind, tableRule, tableRules, formRules, callsLower, unusedSlot, slotFits, slotsFit, chainFits, kindFits, ruleFits, mostFormRules, validFor, formRefusal}
 use Rattle.terms.proofs.Test.{is-true, of-true, both-0, both-1, parts, or-false, every-at}
 use Rattle.terms.proofs.Tabulate.{length-tabulate, getD-tabulate}
 use Rattle.terms.proofs.Refusal.{not-given}
@@ -25,59 +25,59 @@ rank-le (r ∷ alphabet) h zero = leb→le r 4 (both-0 (leb r 4) (all (λ rank. 
 rank-le (r ∷ alphabet) h (suc f) = rank-le alphabet (both-1 (leb r 4) (all (λ rank. leb rank 4) alphabet) h) f
 
 -- a rule has the rank of its kind
-kind-holes : (form : List ℕ) (i kind t f n h : ℕ) (slot : ℕ → ℕ) → T (kindFits form i kind t f n h) → holes (ruleOfKind kind f n h slot) ≡ kindRank kind
-kind-holes form i zero t f n h slot p = refl
-kind-holes form i (suc zero) t f n h slot p = refl
-kind-holes form i (suc (suc zero)) t f n h slot p = refl
-kind-holes form i (suc (suc (suc zero))) t f n h slot p = refl
-kind-holes form i (suc (suc (suc (suc kind)))) t f n h slot p = absurd p
+kind-holes : (table : List ℕ) (i kind t f n h : ℕ) (slot : ℕ → ℕ) → T (kindFits table i kind t f n h) → holes (ruleOfKind kind f n h slot) ≡ kindRank kind
+kind-holes table i zero t f n h slot p = refl
+kind-holes table i (suc zero) t f n h slot p = refl
+kind-holes table i (suc (suc zero)) t f n h slot p = refl
+kind-holes table i (suc (suc (suc zero))) t f n h slot p = refl
+kind-holes table i (suc (suc (suc (suc kind)))) t f n h slot p = absurd p
 
 slots-of : (rules : List Rule) (i n : ℕ) (slot : ℕ → ℕ) → ((j : ℕ) → j < n → Has rules i 0 (slot j)) → Slots rules i (tabulate n slot)
 unfolding tabulate
 slots-of rules i zero slot h = tt
 slots-of rules i (suc n) slot h = (h 0 (omega arith), slots-of rules i n (λ j. slot (suc j)) (λ j l. h (suc j) (omega arith)))
 
-module _ (alphabet form : List ℕ) (low : (f : ℕ) → terminalRank alphabet f ≤ 4) (fit : (i : ℕ) → i < ruleCount form → T (ruleFits alphabet form i)) where
+module _ (alphabet table : List ℕ) (low : (f : ℕ) → terminalRank alphabet f ≤ 4) (fit : (i : ℕ) → i < tableCount table → T (ruleFits alphabet table i)) where
   abbrev rules : List Rule
-  rules = formRules alphabet form
+  rules = tableRules alphabet table
 
-  count-rules : length rules ≡ ruleCount form
-  unfolding formRules
-  count-rules = length-tabulate (ruleCount form) (formRule alphabet form)
+  pub count-rules : length rules ≡ tableCount table
+  unfolding tableRules
+  count-rules = length-tabulate (tableCount table) (tableRule alphabet table)
 
-  rule-at : (i : ℕ) → i < ruleCount form → ruleAt rules i ≡ formRule alphabet form i
-  unfolding formRules
-  rule-at i h = getD-tabulate (ruleCount form) (formRule alphabet form) (whole 0 []) i h
+  pub rule-at : (i : ℕ) → i < tableCount table → ruleAt rules i ≡ tableRule alphabet table i
+  unfolding tableRules
+  rule-at i h = getD-tabulate (tableCount table) (tableRule alphabet table) (whole 0 []) i h
 
-  kind-fit : (i : ℕ) → i < ruleCount form
-      → T (kindFits form i (ruleByte form i 0) (length alphabet) (ruleByte form i 1) (terminalRank alphabet (ruleByte form i 1)) (ruleByte form i 2))
+  kind-fit : (i : ℕ) → i < tableCount table
+      → T (kindFits table i (ruleByte table i 0) (length alphabet) (ruleByte table i 1) (terminalRank alphabet (ruleByte table i 1)) (ruleByte table i 2))
   unfolding ruleFits
-  kind-fit i h = both-1 (eqb (ruleByte form i 3) 0) _ (fit i h)
+  kind-fit i h = both-1 (eqb (ruleByte table i 3) 0) _ (fit i h)
 
   -- a call of a lower rule
-  calls : (i k a : ℕ) → i ≤ ruleCount form → T (callsLower form i k a) → Has rules i k a
-  unfolding formRule
+  calls : (i k a : ℕ) → i ≤ tableCount table → T (callsLower table i k a) → Has rules i k a
+  unfolding tableRule
   calls i k a l p =
-      let below = ltb→lt a i (both-0 (ltb a i) (eqb (rankAt form a) k) p) in
-      let f = ruleByte form a 1 in
+      let below = ltb→lt a i (both-0 (ltb a i) (eqb (rankAt table a) k) p) in
+      let f = ruleByte table a 1 in
       let n = terminalRank alphabet f in
-      let rank = kind-holes form a (ruleByte form a 0) (length alphabet) f n (ruleByte form a 2) (slotOf form a) (kind-fit a (omega arith)) in
-      record { below = below; rank = ap holes (rule-at a (omega arith)) ∙ rank ∙ eqb→eq _ _ (both-1 (ltb a i) (eqb (rankAt form a) k) p) }
+      let rank = kind-holes table a (ruleByte table a 0) (length alphabet) f n (ruleByte table a 2) (slotOf table a) (kind-fit a (omega arith)) in
+      record { below = below; rank = ap holes (rule-at a (omega arith)) ∙ rank ∙ eqb→eq _ _ (both-1 (ltb a i) (eqb (rankAt table a) k) p) }
 
-  module _ (i : ℕ) (l : i < ruleCount form) (n h : ℕ) (fits : T (slotsFit form i n h)) where
+  module _ (i : ℕ) (l : i < tableCount table) (n h : ℕ) (fits : T (slotsFit table i n h)) where
     -- a slot of f(A1..An) that is no hole
-    slot-has : (j : ℕ) → j < 4 → j < n → (suc j ≡ h → ⊥) → Has rules i 0 (slotOf form i j)
+    slot-has : (j : ℕ) → j < 4 → j < n → (suc j ≡ h → ⊥) → Has rules i 0 (slotOf table i j)
     slot-has j b m ne =
-        let s = every-at 4 (slotFits form i n h) fits j b in
-        calls i 0 (slotOf form i j) (omega arith) (rw (lt-ltb j n m, ne-eqb (suc j) h ne) at s)
+        let s = every-at 4 (slotFits table i n h) fits j b in
+        calls i 0 (slotOf table i j) (omega arith) (rw (lt-ltb j n m, ne-eqb (suc j) h ne) at s)
 
   -- f(A1..An), with the open place at child h, or with none where h is 0
-  module _ (i : ℕ) (l : i < ruleCount form) (f h : ℕ) (known : f < length alphabet) (fits : T (slotsFit form i (terminalRank alphabet f) h)) where
+  module _ (i : ℕ) (l : i < tableCount table) (f h : ℕ) (known : f < length alphabet) (fits : T (slotsFit table i (terminalRank alphabet f) h)) where
     abbrev n : ℕ
     n = terminalRank alphabet f
 
     abbrev slot : ℕ → ℕ
-    slot = slotOf form i
+    slot = slotOf table i
 
     whole-fits : h ≡ 0 → Fits alphabet rules i (whole f (tabulate n slot))
     whole-fits z =
@@ -91,25 +91,25 @@ module _ (alphabet form : List ℕ) (low : (f : ℕ) → terminalRank alphabet f
     )
 
   -- B(C) and B(C(y))
-  chain-calls : (i : ℕ) → i < ruleCount form → (f h k : ℕ) → T (chainFits form i f h k)
-      → Has rules i 1 (slotOf form i 0) × Has rules i k (slotOf form i 1)
+  chain-calls : (i : ℕ) → i < tableCount table → (f h k : ℕ) → T (chainFits table i f h k)
+      → Has rules i 1 (slotOf table i 0) × Has rules i k (slotOf table i 1)
   chain-calls i l f h k p =
-      let unused = unusedSlot (slotOf form i 2) && unusedSlot (slotOf form i 3) in
-      let b = callsLower form i 1 (slotOf form i 0) in
-      let c = callsLower form i k (slotOf form i 1) in
+      let unused = unusedSlot (slotOf table i 2) && unusedSlot (slotOf table i 3) in
+      let b = callsLower table i 1 (slotOf table i 0) in
+      let c = callsLower table i k (slotOf table i 1) in
       let q = both-1 (eqb h 0) (b && (c && unused)) (both-1 (eqb f 0xFF) (eqb h 0 && (b && (c && unused))) p) in
-      (calls i 1 (slotOf form i 0) (omega arith) (both-0 b (c && unused) q), calls i k (slotOf form i 1) (omega arith) (both-0 c unused (both-1 b (c && unused) q)))
+      (calls i 1 (slotOf table i 0) (omega arith) (both-0 b (c && unused) q), calls i k (slotOf table i 1) (omega arith) (both-0 c unused (both-1 b (c && unused) q)))
 
-  kind-fits : (i : ℕ) → i < ruleCount form → (kind f h : ℕ) → T (kindFits form i kind (length alphabet) f (terminalRank alphabet f) h)
-      → Fits alphabet rules i (ruleOfKind kind f (terminalRank alphabet f) h (slotOf form i))
+  kind-fits : (i : ℕ) → i < tableCount table → (kind f h : ℕ) → T (kindFits table i kind (length alphabet) f (terminalRank alphabet f) h)
+      → Fits alphabet rules i (ruleOfKind kind f (terminalRank alphabet f) h (slotOf table i))
   kind-fits i l zero f h p =
-      let fits = slotsFit form i (terminalRank alphabet f) h in
+      let fits = slotsFit table i (terminalRank alphabet f) h in
       let (known, q) = parts (ltb f (length alphabet)) (eqb h 0 && fits) p in
       let (none, s) = parts (eqb h 0) fits q in
       whole-fits i l f h (ltb→lt f (length alphabet) known) s (eqb→eq h 0 none)
   kind-fits i l (suc zero) f h p =
       let n = terminalRank alphabet f in
-      let fits = slotsFit form i n h in
+      let fits = slotsFit table i n h in
       let (known, q) = parts (ltb f (length alphabet)) (not (outside 1 n h) && fits) p in
       let (within, s) = parts (not (outside 1 n h)) fits q in
       let (a, b) = or-false (ltb h 1) (ltb n h) (not-true (outside 1 n h) (is-true (not (outside 1 n h)) within)) in
@@ -118,18 +118,26 @@ module _ (alphabet form : List ℕ) (low : (f : ℕ) → terminalRank alphabet f
   kind-fits i l (suc (suc (suc zero))) f h p = chain-calls i l f h 1 p
   kind-fits i l (suc (suc (suc (suc kind)))) f h p = absurd p
 
-  rules-valid : Valid alphabet rules
-  unfolding formRule
+  pub rules-valid : Valid alphabet rules
+  unfolding tableRule
   rules-valid = record {
-    fits = λ i h. let l : i < ruleCount form = rw count-rules at h in rw (rule-at i l) (kind-fits i l (ruleByte form i 0) (ruleByte form i 1) (ruleByte form i 2) (kind-fit i l));
+    fits = λ i h. let l : i < tableCount table = rw count-rules at h in rw (rule-at i l) (kind-fits i l (ruleByte table i 0) (ruleByte table i 1) (ruleByte table i 2) (kind-fit i l));
   }
+
+-- a table that has the rules of a form
+module _ (form : List ℕ) (long : length form ≡ formLength (ruleCount form)) where
+  pub table-long : length (tableOf form) ≡ ruleLength * ruleCount form
+  table-long = omega (arith, length-drop headLength form)
+
+  pub table-count : tableCount (tableOf form) ≡ ruleCount form
+  table-count = omega (arith, table-long)
 
 -- what is known of a form that is valid for an alphabet
 pub record FormPassed (alphabet form : List ℕ) : Type 0 where
   pub some : 1 ≤ ruleCount form
-  pub few : ruleCount form ≤ 2048
-  pub long : length form ≡ ruleOffset (ruleCount form)
-  pub fits : (i : ℕ) → i < ruleCount form → T (ruleFits alphabet form i)
+  pub few : ruleCount form ≤ mostFormRules
+  pub long : length form ≡ formLength (ruleCount form)
+  pub fits : (i : ℕ) → i < ruleCount form → T (ruleFits alphabet (tableOf form) i)
   pub count : length (formRules alphabet form) ≡ ruleCount form
   pub valid : Valid alphabet (formRules alphabet form)
   pub start : Has (formRules alphabet form) (ruleCount form) 0 (startOf form)
@@ -138,23 +146,27 @@ pub form-passed : (alphabet form : List ℕ) → AlphabetPassed alphabet → for
 unfolding formRefusal validFor
 form-passed alphabet form a e =
     let r = ruleCount form in
-    let range = not (outside 1 2048 r) in
-    let whole = eqb (length form) (ruleOffset r) in
-    let begin = callsLower form r 0 (startOf form) in
-    let each = every r (ruleFits alphabet form) in
+    let table = tableOf form in
+    let range = not (outside 1 mostFormRules r) in
+    let whole = eqb (length form) (formLength r) in
+    let begin = callsLower table r 0 (startOf form) in
+    let each = every r (ruleFits alphabet table) in
     let v = of-true (validFor alphabet form) (not-false _ (not-given 17 (not (validFor alphabet form)) e)) in
     let (p, q) = parts range (whole && (begin && each)) v in
-    let (long, s) = parts whole (begin && each) q in
+    let (l, s) = parts whole (begin && each) q in
     let (t, u) = parts begin each s in
-    let (low, high) = or-false (ltb r 1) (ltb 2048 r) (not-true (outside 1 2048 r) (is-true range p)) in
+    let (low, high) = or-false (ltb r 1) (ltb mostFormRules r) (not-true (outside 1 mostFormRules r) (is-true range p)) in
     let ranks = rank-le alphabet (a .ranks) in
-    let fit = every-at r (ruleFits alphabet form) u in
+    let long = eqb→eq (length form) (formLength r) l in
+    let all = table-count form long in
+    let fit = every-at r (ruleFits alphabet table) u in
+    let each-fits : (i : ℕ) → i < tableCount table → T (ruleFits alphabet table i) = λ i h. fit i (omega arith) in
     record {
       some = ltb-false r 1 low;
-      few = ltb-false 2048 r high;
-      long = eqb→eq (length form) (ruleOffset r) long;
+      few = ltb-false mostFormRules r high;
+      long = long;
       fits = fit;
-      count = count-rules alphabet form ranks fit;
-      valid = rules-valid alphabet form ranks fit;
-      start = calls alphabet form ranks fit r 0 (startOf form) (omega arith) t;
+      count = count-rules alphabet table ranks each-fits ∙ all;
+      valid = rules-valid alphabet table ranks each-fits;
+      start = calls alphabet table ranks each-fits r 0 (startOf form) (omega arith) t;
     }

@@ -1,69 +1,75 @@
 -- How a form is written: where each byte stands, that these bytes are the only ones, and that a valid form is read as its rules.
-use mathlib.Core.Path.{_≡_, refl, sym, _∙_}
+use mathlib.Core.Path.{_≡_, refl, sym, ap, _∙_}
 use mathlib.Core.List.{List, [], _∷_, _++_}
 use Prim.Native.Nat.{ℕ, zero, suc, _+_, _*_, _-_, _/_, _%_, _≤_, _<_}
 use native.Mathlib.Omega.{arith}
 use native.Mathlib.Decide.{decLt}
 use lib.ListN.{length, getD, length-append, List·getD-append}
-use lib.Seq.{ext-getD, getD-append-add}
+use lib.Seq.{ext-getD, getD-drop, getD-append-add, drop-append-seam}
 use Rattle.terms.specs.Bytes.{word}
 use Rattle.terms.specs.Form.{Rule, whole, pierced, filled, composed, ruleAt, Has, Slots, Fits, Valid}
-use Rattle.terms.specs.FormBytes.{ruleCount, startOf, ruleOffset, ruleByte, unused, bytesWith, fieldsOf, ruleBytes, rulesBytes, headBytes, formBytes}
+use Rattle.terms.specs.FormBytes.{headLength, ruleLength, formLength, ruleCount, startOf, tableOf, ruleByte, unused, mostFormRules, bytesWith, fieldsOf, ruleBytes, rulesBytes, headBytes, formBytes}
 use Rattle.terms.proofs.Sheet.Passed.{AlphabetPassed}
 use Rattle.terms.proofs.Sheet.Write.{word-back}
 use Rattle.terms.proofs.Form.Fields.{Fields, Says, FormRead, form-read}
 
 -- where the bytes stand
 
-length-rule : (r : Rule) → length (ruleBytes r) ≡ 12
+length-rule : (r : Rule) → length (ruleBytes r) ≡ ruleLength
 length-rule r = refl
 
-length-rules : (rules : List Rule) → length (rulesBytes rules) ≡ 12 * length rules
+length-rules : (rules : List Rule) → length (rulesBytes rules) ≡ ruleLength * length rules
 unfolding rulesBytes
 length-rules [] = refl
 length-rules (r ∷ rules) = omega (arith, length-append (ruleBytes r) (rulesBytes rules), length-rule r, length-rules rules)
 
-rules-at : (rules : List Rule) (i k : ℕ) → i < length rules → k < 12 → getD (rulesBytes rules) (12 * i + k) 0 ≡ getD (ruleBytes (ruleAt rules i)) k 0
+rules-at : (rules : List Rule) (i k : ℕ) → i < length rules → k < ruleLength → getD (rulesBytes rules) (ruleLength * i + k) 0 ≡ getD (ruleBytes (ruleAt rules i)) k 0
 unfolding rulesBytes
 rules-at [] i k h l = absurd (omega arith)
 rules-at (r ∷ rules) zero k h l =
-    let e : 12 * 0 + k ≡ k = omega arith in
+    let e : ruleLength * 0 + k ≡ k = omega arith in
     rw e (List·getD-append (ruleBytes r) (rulesBytes rules) 0 k (omega (arith, length-rule r)))
 rules-at (r ∷ rules) (suc i) k h l =
-    let e : 12 * suc i + k ≡ length (ruleBytes r) + (12 * i + k) = omega (arith, length-rule r) in
-    rw e (getD-append-add (ruleBytes r) (rulesBytes rules) (12 * i + k) 0 ∙ rules-at rules i k (omega arith) l)
+    let e : ruleLength * suc i + k ≡ length (ruleBytes r) + (ruleLength * i + k) = omega (arith, length-rule r) in
+    rw e (getD-append-add (ruleBytes r) (rulesBytes rules) (ruleLength * i + k) 0 ∙ rules-at rules i k (omega arith) l)
+
+-- a byte behind the head is one of the table's
+pub behind-head : (form : List ℕ) (i k : ℕ) → getD form (headLength + (ruleLength * i + k)) 0 ≡ ruleByte (tableOf form) i k
+behind-head form i k = sym (getD-drop headLength form (ruleLength * i + k) 0)
 
 module _ (rules : List Rule) (start : ℕ) where
   abbrev bytes : List ℕ
   bytes = formBytes rules start
 
-  pub length-form : length bytes ≡ ruleOffset (length rules)
+  -- the table is what stands behind the head
+  table-is : tableOf bytes ≡ rulesBytes rules
+  unfolding formBytes
+  table-is = drop-append-seam (headBytes (length rules) start) (rulesBytes rules)
+
+  pub length-form : length bytes ≡ formLength (length rules)
   unfolding formBytes
   length-form = omega (arith, length-rules rules)
 
-  head-at : (k : ℕ) → k < 4 → getD bytes k 0 ≡ getD (headBytes (length rules) start) k 0
+  head-at : (k : ℕ) → k < headLength → getD bytes k 0 ≡ getD (headBytes (length rules) start) k 0
   unfolding formBytes
   head-at k h = List·getD-append (headBytes (length rules) start) (rulesBytes rules) 0 k h
 
-  rule-at : (i k : ℕ) → i < length rules → k < 12 → ruleByte bytes i k ≡ getD (ruleBytes (ruleAt rules i)) k 0
-  unfolding formBytes
-  rule-at i k h l =
-      let e : ruleOffset i + k ≡ 4 + (12 * i + k) = omega arith in
-      rw e (getD-append-add (headBytes (length rules) start) (rulesBytes rules) (12 * i + k) 0 ∙ rules-at rules i k h l)
+  rule-at : (i k : ℕ) → i < length rules → k < ruleLength → ruleByte (tableOf bytes) i k ≡ getD (ruleBytes (ruleAt rules i)) k 0
+  rule-at i k h l = ap (λ table. ruleByte table i k) table-is ∙ rules-at rules i k h l
 
   -- no other bytes have the head and the rules in their places
-  module _ (form : List ℕ) (long : length form ≡ ruleOffset (length rules)) (head : (k : ℕ) → k < 4 → getD form k 0 ≡ getD (headBytes (length rules) start) k 0)
-      (each : (i k : ℕ) → i < length rules → k < 12 → ruleByte form i k ≡ getD (ruleBytes (ruleAt rules i)) k 0) where
-    same : (k : ℕ) → k < length form → Dec (k < 4) → getD form k 0 ≡ getD bytes k 0
+  module _ (form : List ℕ) (long : length form ≡ formLength (length rules)) (head : (k : ℕ) → k < headLength → getD form k 0 ≡ getD (headBytes (length rules) start) k 0)
+      (each : (i k : ℕ) → i < length rules → k < ruleLength → ruleByte (tableOf form) i k ≡ getD (ruleBytes (ruleAt rules i)) k 0) where
+    same : (k : ℕ) → k < length form → Dec (k < headLength) → getD form k 0 ≡ getD bytes k 0
     same k h (yes l) = head k l ∙ sym (head-at k l)
     same k h (no l) =
-        let i = (k - 4) / 12 in
-        let m = (k - 4) % 12 in
-        let e : k ≡ ruleOffset i + m = omega arith in
-        rw e (each i m (omega arith) (omega arith) ∙ sym (rule-at i m (omega arith) (omega arith)))
+        let i = (k - headLength) / ruleLength in
+        let m = (k - headLength) % ruleLength in
+        let e : k ≡ headLength + (ruleLength * i + m) = omega arith in
+        rw e (behind-head form i m ∙ each i m (omega arith) (omega arith) ∙ sym (behind-head bytes i m ∙ rule-at i m (omega arith) (omega arith)))
 
     pub only-bytes : form ≡ bytes
-    only-bytes = ext-getD 0 form bytes (long ∙ sym length-form) (λ k h. same k h (decLt k 4))
+    only-bytes = ext-getD 0 form bytes (long ∙ sym length-form) (λ k h. same k h (decLt k headLength))
 
 -- numbers of two bytes
 
@@ -71,22 +77,22 @@ word-of : (bytes : List ℕ) (i n : ℕ) → n < 65536 → getD bytes i 0 ≡ n 
 unfolding word
 word-of bytes i n h lo hi = rw (lo, hi) (word-back n h)
 
-module _ (form : List ℕ) (i kind f h : ℕ) (slots : List ℕ) (narrow : (j : ℕ) → getD slots j unused < 65536)
-    (each : (k : ℕ) → k < 12 → ruleByte form i k ≡ getD (bytesWith kind f h slots) k 0) where
-  slot-read : (k j : ℕ) → k + 1 < 12 → getD (bytesWith kind f h slots) k 0 ≡ getD slots j unused % 256 → getD (bytesWith kind f h slots) (k + 1) 0 ≡ getD slots j unused / 256 % 256
-      → word form (ruleOffset i + k) ≡ getD slots j unused
+module _ (table : List ℕ) (i kind f h : ℕ) (slots : List ℕ) (narrow : (j : ℕ) → getD slots j unused < 65536)
+    (each : (k : ℕ) → k < ruleLength → ruleByte table i k ≡ getD (bytesWith kind f h slots) k 0) where
+  slot-read : (k j : ℕ) → k + 1 < ruleLength → getD (bytesWith kind f h slots) k 0 ≡ getD slots j unused % 256 → getD (bytesWith kind f h slots) (k + 1) 0 ≡ getD slots j unused / 256 % 256
+      → word table (ruleLength * i + k) ≡ getD slots j unused
   slot-read k j l lo hi =
-      let e : ruleOffset i + k + 1 ≡ ruleOffset i + (k + 1) = omega arith in
-      word-of form (ruleOffset i + k) (getD slots j unused) (narrow j) (each k (omega arith) ∙ lo) (rw e (each (k + 1) l ∙ hi))
+      let e : ruleLength * i + k + 1 ≡ ruleLength * i + (k + 1) = omega arith in
+      word-of table (ruleLength * i + k) (getD slots j unused) (narrow j) (each k (omega arith) ∙ lo) (rw e (each (k + 1) l ∙ hi))
 
-  slots-read : (j : ℕ) → j < 4 → word form (ruleOffset i + (4 + 2 * j)) ≡ getD slots j unused
+  slots-read : (j : ℕ) → j < 4 → word table (ruleLength * i + (4 + 2 * j)) ≡ getD slots j unused
   slots-read zero l = slot-read 4 0 (omega arith) refl refl
   slots-read (suc zero) l = slot-read 6 1 (omega arith) refl refl
   slots-read (suc (suc zero)) l = slot-read 8 2 (omega arith) refl refl
   slots-read (suc (suc (suc zero))) l = slot-read 10 3 (omega arith) refl refl
   slots-read (suc (suc (suc (suc j)))) l = absurd (omega arith)
 
-  fields-read : Fields form i kind f h slots
+  fields-read : Fields table i kind f h slots
   fields-read = record {
     kind = each 0 (omega arith);
     terminal = each 1 (omega arith);
@@ -96,7 +102,7 @@ module _ (form : List ℕ) (i kind f h : ℕ) (slots : List ℕ) (narrow : (j : 
   }
 
 -- the slots of a rule that fits are numbers of two bytes
-module _ (rules : List Rule) (n : ℕ) (few : n ≤ 2048) where
+module _ (rules : List Rule) (n : ℕ) (few : n ≤ mostFormRules) where
   has-narrow : {k a : ℕ} → Has rules n k a → a < 65536
   has-narrow p = omega (arith, p .below)
 
@@ -122,21 +128,21 @@ module _ (rules : List Rule) (n : ℕ) (few : n ≤ 2048) where
   fields-narrow alphabet (filled b c) p j = chain-narrow b c (p .0) (p .1) j
   fields-narrow alphabet (composed b c) p j = chain-narrow b c (p .0) (p .1) j
 
-  rule-says : (alphabet form : List ℕ) (i : ℕ) (r : Rule) → Fits alphabet rules n r → ((k : ℕ) → k < 12 → ruleByte form i k ≡ getD (ruleBytes r) k 0) → Says form i r
-  rule-says alphabet form i r p each =
-      fields-read form i (fieldsOf r .kind) (fieldsOf r .terminal) (fieldsOf r .hole) (fieldsOf r .slots) (fields-narrow alphabet r p) each
+  rule-says : (alphabet table : List ℕ) (i : ℕ) (r : Rule) → Fits alphabet rules n r → ((k : ℕ) → k < ruleLength → ruleByte table i k ≡ getD (ruleBytes r) k 0) → Says table i r
+  rule-says alphabet table i r p each =
+      fields-read table i (fieldsOf r .kind) (fieldsOf r .terminal) (fieldsOf r .hole) (fieldsOf r .slots) (fields-narrow alphabet r p) each
 
 -- the bytes of a valid form are accepted and read as its rules
-module _ (rules : List Rule) (start : ℕ) (few : length rules ≤ 2048) where
+module _ (rules : List Rule) (start : ℕ) (few : length rules ≤ mostFormRules) where
   pub counted : ruleCount (formBytes rules start) ≡ length rules
   counted = word-of (formBytes rules start) 0 (length rules) (omega arith) (head-at rules start 0 (omega arith)) (head-at rules start 1 (omega arith))
 
   begun : start < 65536 → startOf (formBytes rules start) ≡ start
   begun h = word-of (formBytes rules start) 2 start h (head-at rules start 2 (omega arith)) (head-at rules start 3 (omega arith))
 
-pub written-form : (alphabet : List ℕ) (rules : List Rule) (start : ℕ) → length rules ≤ 2048 → AlphabetPassed alphabet → Valid alphabet rules
+pub written-form : (alphabet : List ℕ) (rules : List Rule) (start : ℕ) → length rules ≤ mostFormRules → AlphabetPassed alphabet → Valid alphabet rules
     → Has rules (length rules) 0 start → FormRead alphabet (formBytes rules start) rules start
 written-form alphabet rules start few a v from =
     form-read alphabet (formBytes rules start) rules start a v
-    (λ i h. rule-says rules i (omega arith) alphabet (formBytes rules start) i (ruleAt rules i) (v .fits i h) (λ k l. rule-at rules start i k h l))
+    (λ i h. rule-says rules i (omega arith) alphabet (tableOf (formBytes rules start)) i (ruleAt rules i) (v .fits i h) (λ k l. rule-at rules start i k h l))
     (counted rules start few) (begun rules start few (omega (arith, from .below))) (length-form rules start) few from

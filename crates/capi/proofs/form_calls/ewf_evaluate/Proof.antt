@@ -1,9 +1,10 @@
 -- `capi::form_calls::ewf_evaluate` meets its contract: the answer's number, and its value behind the pointer.
-use mathlib.Core.Path.{sym, _∙_}
+use mathlib.Core.Path.{sym, ap, _∙_}
 use lib.ListN.{length}
+use Rattle.terms.specs.Answer.{answerOfMask}
 use Rattle.terms.specs.Calls.{evaluationRefusal, formMask}
 use borrow.Author.Needs.{needs}
-use Rattle.capi.proofs.Answered.{mask-says}
+use Rattle.capi.proofs.Answered.{says}
 use Rattle.capi.proofs.form_calls.ewf_evaluate.Statement.{statement}
 use Rattle.capi.proofs.form_calls.ewf_evaluate.Tie as tie
 
@@ -24,8 +25,8 @@ returns c =
     let told = c .before in
     let call = told .before .before .before .before in
     let given = call .before .before .before .before .before .before .args in
-    let says = mask-says (evaluationRefusal (given .alphabet .now) (given .automaton .now) (given .form .now) (length (given .relations .now))) (formMask (given .alphabet .now) (given .automaton .now) (given .form .now)) (given .mask .now) _ (sym (call .evaluate .ensures .0) ∙ told .n .given .1) in
-    (says .number, (call .evaluate .ensures .1, says .result))
+    let said = says (evaluationRefusal (given .alphabet .now) (given .automaton .now) (given .form .now) (length (given .relations .now))) (formMask (given .alphabet .now) (given .automaton .now) (given .form .now)) (given .mask .now) _ (sym (call .evaluate .ensures .0) ∙ ap answerOfMask (told .n .given .1)) in
+    (said .number, (call .evaluate .ensures .1 .0, said .result))
 
 same-length-2 : tie.Need-same-length-2
 same-length-2 c = search needs
@@ -35,8 +36,8 @@ returns-2 c =
     let told = c .before in
     let call = told .before .before .before .before in
     let given = call .before .before .before .before .before .before .args in
-    let says = mask-says (evaluationRefusal (given .alphabet .now) (given .automaton .now) (given .form .now) (length (given .relations .now))) (formMask (given .alphabet .now) (given .automaton .now) (given .form .now)) (given .mask .now) _ (sym (call .evaluate .ensures .0) ∙ told .states .given .1) in
-    (says .number, (call .evaluate .ensures .1, says .result))
+    let said = says (evaluationRefusal (given .alphabet .now) (given .automaton .now) (given .form .now) (length (given .relations .now))) (formMask (given .alphabet .now) (given .automaton .now) (given .form .now)) (given .mask .now) _ (sym (call .evaluate .ensures .0) ∙ ap answerOfMask (told .states .given .1)) in
+    (said .number, (call .evaluate .ensures .1 .0, said .result))
 
 pub ewf-evaluate-spec : {M : Type 1} → statement M
 ewf-evaluate-spec =

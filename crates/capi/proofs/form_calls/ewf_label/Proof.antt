@@ -1,9 +1,10 @@
 -- `capi::form_calls::ewf_label` meets its contract: the answer's number, and its value behind the pointer.
-use mathlib.Core.Path.{sym, _∙_}
+use mathlib.Core.Path.{sym, ap, _∙_}
 use lib.ListN.{length}
+use Rattle.labelling.specs.Label.{answerOfLabel}
 use Rattle.terms.specs.Calls.{labelRefusal, labelAt}
 use borrow.Author.Needs.{needs}
-use Rattle.capi.proofs.Answered.{label-says}
+use Rattle.capi.proofs.Answered.{says}
 use Rattle.capi.proofs.form_calls.ewf_label.Statement.{statement}
 use Rattle.capi.proofs.form_calls.ewf_label.Tie as tie
 
@@ -24,8 +25,8 @@ returns c =
     let told = c .before in
     let call = told .before .before .before .before in
     let given = call .before .before .before .before .before .args in
-    let says = label-says (labelRefusal (given .alphabet .now) (given .form .now) (given .position) (length (given .counts .now))) (labelAt (given .alphabet .now) (given .form .now) (given .position)) (given .terminal .now) _ (sym (call .label .ensures .0) ∙ told .n .given .1) in
-    (says .number, (call .label .ensures .1, says .result))
+    let said = says (labelRefusal (given .alphabet .now) (given .form .now) (given .position) (length (given .counts .now))) (labelAt (given .alphabet .now) (given .form .now) (given .position)) (given .terminal .now) _ (sym (call .label .ensures .0) ∙ ap answerOfLabel (told .n .given .1)) in
+    (said .number, (call .label .ensures .1, said .result))
 
 same-length-2 : tie.Need-same-length-2
 same-length-2 c = search needs
@@ -35,8 +36,8 @@ returns-2 c =
     let told = c .before in
     let call = told .before .before .before .before in
     let given = call .before .before .before .before .before .args in
-    let says = label-says (labelRefusal (given .alphabet .now) (given .form .now) (given .position) (length (given .counts .now))) (labelAt (given .alphabet .now) (given .form .now) (given .position)) (given .terminal .now) _ (sym (call .label .ensures .0) ∙ told .found .given .1) in
-    (says .number, (call .label .ensures .1, says .result))
+    let said = says (labelRefusal (given .alphabet .now) (given .form .now) (given .position) (length (given .counts .now))) (labelAt (given .alphabet .now) (given .form .now) (given .position)) (given .terminal .now) _ (sym (call .label .ensures .0) ∙ ap answerOfLabel (told .found .given .1)) in
+    (said .number, (call .label .ensures .1, said .result))
 
 pub ewf-label-spec : {M : Type 1} → statement M
 ewf-label-spec =

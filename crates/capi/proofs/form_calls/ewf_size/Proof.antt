@@ -1,6 +1,7 @@
 -- `capi::form_calls::ewf_size` meets its contract: the answer's number, and its value behind the pointer.
-use mathlib.Core.Path.{sym, _∙_}
+use mathlib.Core.Path.{sym, ap, _∙_}
 use lib.ListN.{length}
+use Rattle.sizing.specs.Size.{answerOfSize}
 use Rattle.terms.specs.FormBytes.{formTree}
 use Rattle.terms.specs.Count.{sizeOf, sizeAnswer}
 use Rattle.terms.specs.Calls.{sizeRefusal}
@@ -29,8 +30,8 @@ returns c =
     let told = c .before in
     let call = told .before .before .before .before in
     let given = call .before .before .before .before .before .args in
-    let says = size-says (sizeRefusal (given .alphabet .now) (given .form .now) (length (given .counts .now))) (sizeAnswer (sizeOf (formTree (given .alphabet .now) (given .form .now)))) (given .nodes .now) _ (sym (call .size .ensures .0) ∙ told .n .given .1) in
-    (says .number, (call .size .ensures .1, says .result))
+    let said = size-says (sizeRefusal (given .alphabet .now) (given .form .now) (length (given .counts .now))) (sizeAnswer (sizeOf (formTree (given .alphabet .now) (given .form .now)))) (given .nodes .now) _ (sym (call .size .ensures .0) ∙ ap answerOfSize (told .n .given .1)) in
+    (said .number, (call .size .ensures .1, said .result))
 
 same-length-2 : tie.Need-same-length-2
 same-length-2 c = search needs
@@ -40,8 +41,8 @@ returns-2 c =
     let told = c .before in
     let call = told .before .before .before .before in
     let given = call .before .before .before .before .before .args in
-    let says = size-says (sizeRefusal (given .alphabet .now) (given .form .now) (length (given .counts .now))) (sizeAnswer (sizeOf (formTree (given .alphabet .now) (given .form .now)))) (given .nodes .now) _ (sym (call .size .ensures .0) ∙ told .n2 .given .1) in
-    (says .number, (call .size .ensures .1, says .result))
+    let said = size-says (sizeRefusal (given .alphabet .now) (given .form .now) (length (given .counts .now))) (sizeAnswer (sizeOf (formTree (given .alphabet .now) (given .form .now)))) (given .nodes .now) _ (sym (call .size .ensures .0) ∙ ap answerOfSize (told .n2 .given .1)) in
+    (said .number, (call .size .ensures .1, said .result))
 
 same-length-3 : tie.Need-same-length-3
 same-length-3 c = search needs
@@ -51,8 +52,8 @@ returns-3 c =
     let told = c .before in
     let call = told .before .before .before in
     let given = call .before .before .before .before .before .args in
-    let says = size-says (sizeRefusal (given .alphabet .now) (given .form .now) (length (given .counts .now))) (sizeAnswer (sizeOf (formTree (given .alphabet .now) (given .form .now)))) (given .nodes .now) _ (sym (call .size .ensures .0) ∙ c .enum-told .given .1) in
-    (says .number, (call .size .ensures .1, says .result))
+    let said = size-says (sizeRefusal (given .alphabet .now) (given .form .now) (length (given .counts .now))) (sizeAnswer (sizeOf (formTree (given .alphabet .now) (given .form .now)))) (given .nodes .now) _ (sym (call .size .ensures .0) ∙ ap answerOfSize (c .enum-told .given .1)) in
+    (said .number, (call .size .ensures .1, said .result))
 
 pub ewf-size-spec : {M : Type 1} → statement M
 ewf-size-spec =

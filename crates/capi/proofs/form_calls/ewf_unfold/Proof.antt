@@ -1,11 +1,12 @@
 -- `capi::form_calls::ewf_unfold` meets its contract: the answer's number, and its value behind the pointer.
-use mathlib.Core.Path.{sym, _∙_}
+use mathlib.Core.Path.{sym, ap, _∙_}
 use lib.ListN.{length}
+use Rattle.terms.specs.Answer.{answerOfLength}
 use Rattle.terms.specs.FormBytes.{formTree}
 use Rattle.terms.specs.Count.{sizeOf}
 use Rattle.terms.specs.Calls.{unfoldingRefusal}
 use borrow.Author.Needs.{needs}
-use Rattle.capi.proofs.Answered.{nodes-says}
+use Rattle.capi.proofs.Answered.{says}
 use Rattle.capi.proofs.form_calls.ewf_unfold.Statement.{statement}
 use Rattle.capi.proofs.form_calls.ewf_unfold.Tie as tie
 
@@ -29,8 +30,8 @@ returns c =
     let told = c .before in
     let call = told .before .before .before .before .before .before in
     let given = call .before .before .before .before .before .before .before .args in
-    let says = nodes-says (unfoldingRefusal (given .alphabet .now) (given .form .now) (length (given .counts .now)) (length (given .tree .now))) (sizeOf (formTree (given .alphabet .now) (given .form .now))) (given .nodes .now) _ (sym (call .«unfold» .ensures .0) ∙ told .n .given .1) in
-    (says .number, (call .«unfold» .ensures .1 .0, (call .«unfold» .ensures .1 .1, says .result)))
+    let said = says (unfoldingRefusal (given .alphabet .now) (given .form .now) (length (given .counts .now)) (length (given .tree .now))) (sizeOf (formTree (given .alphabet .now) (given .form .now))) (given .nodes .now) _ (sym (call .«unfold» .ensures .0) ∙ ap answerOfLength (told .n .given .1)) in
+    (said .number, (call .«unfold» .ensures .1 .0, (call .«unfold» .ensures .1 .1, said .result)))
 
 same-length-3 : tie.Need-same-length-3
 same-length-3 c = search needs
@@ -43,8 +44,8 @@ returns-2 c =
     let told = c .before in
     let call = told .before .before .before .before .before .before in
     let given = call .before .before .before .before .before .before .before .args in
-    let says = nodes-says (unfoldingRefusal (given .alphabet .now) (given .form .now) (length (given .counts .now)) (length (given .tree .now))) (sizeOf (formTree (given .alphabet .now) (given .form .now))) (given .nodes .now) _ (sym (call .«unfold» .ensures .0) ∙ told .n2 .given .1) in
-    (says .number, (call .«unfold» .ensures .1 .0, (call .«unfold» .ensures .1 .1, says .result)))
+    let said = says (unfoldingRefusal (given .alphabet .now) (given .form .now) (length (given .counts .now)) (length (given .tree .now))) (sizeOf (formTree (given .alphabet .now) (given .form .now))) (given .nodes .now) _ (sym (call .«unfold» .ensures .0) ∙ ap answerOfLength (told .n2 .given .1)) in
+    (said .number, (call .«unfold» .ensures .1 .0, (call .«unfold» .ensures .1 .1, said .result)))
 
 pub ewf-unfold-spec : {M : Type 1} → statement M
 ewf-unfold-spec =

@@ -1,5 +1,7 @@
 -- `capi::mark_call::ewf_mark` meets its contract.
+use mathlib.Core.Path.{ap}
 use borrow.Author.Needs.{needs}
+use Rattle.marking.specs.Marking.{answerOfMark}
 use Rattle.capi.proofs.Marked.{short-marked, marked}
 use Rattle.capi.proofs.mark_call.ewf_mark.Statement.{statement}
 use Rattle.capi.proofs.mark_call.ewf_mark.Tie as tie
@@ -37,7 +39,7 @@ returns-2 c =
     let enough = call .before .before .before .before in
     let given = enough .before .before .before .before .before .args in
     let did = call .mark-and-count .ensures in
-    marked (given .tally .now) (given .sheet .now) (given .form .now) (given .relations .now) (given .verdict .now) (given .mask .now) (enough .if1 .left) _ _ _ _ _ (did .0) (did .1 .0) (did .1 .1) (told .n .given .1)
+    marked (given .tally .now) (given .sheet .now) (given .form .now) (given .relations .now) (given .verdict .now) (given .mask .now) (enough .if1 .left) _ _ _ _ _ (did .0) (did .1 .0) (did .1 .1) (ap answerOfMark (told .n .given .1))
 
 same-length-4 : tie.Need-same-length-4
 same-length-4 c = search needs
@@ -55,7 +57,7 @@ returns-3 c =
     let enough = call .before .before .before .before in
     let given = enough .before .before .before .before .before .args in
     let did = call .mark-and-count .ensures in
-    marked (given .tally .now) (given .sheet .now) (given .form .now) (given .relations .now) (given .verdict .now) (given .mask .now) (enough .if1 .left) _ _ _ _ _ (did .0) (did .1 .0) (did .1 .1) (told .states .given .1)
+    marked (given .tally .now) (given .sheet .now) (given .form .now) (given .relations .now) (given .verdict .now) (given .mask .now) (enough .if1 .left) _ _ _ _ _ (did .0) (did .1 .0) (did .1 .1) (ap answerOfMark (told .states .given .1))
 
 same-length-7 : tie.Need-same-length-7
 same-length-7 c = search needs
@@ -73,7 +75,7 @@ returns-4 c =
     let enough = call .before .before .before .before in
     let given = enough .before .before .before .before .before .args in
     let did = call .mark-and-count .ensures in
-    marked (given .tally .now) (given .sheet .now) (given .form .now) (given .relations .now) (given .verdict .now) (given .mask .now) (enough .if1 .left) _ _ _ _ _ (did .0) (did .1 .0) (did .1 .1) (told .states2 .given .1)
+    marked (given .tally .now) (given .sheet .now) (given .form .now) (given .relations .now) (given .verdict .now) (given .mask .now) (enough .if1 .left) _ _ _ _ _ (did .0) (did .1 .0) (did .1 .1) (ap answerOfMark (told .states2 .given .1))
 
 pub ewf-mark-spec : {M : Type 1} → statement M
 ewf-mark-spec =

@@ -1,8 +1,11 @@
 -- `capi::sheet_calls::ewf_make_form` meets its contract.
+use mathlib.Core.Path.{sym, ap, _∙_}
 use lib.ListN.{length}
-use borrow.Author.Needs.{needs}
+use Rattle.terms.specs.Answer.{answerOfLength}
 use Rattle.terms.specs.Calls.{makingRefusal}
-use Rattle.capi.proofs.Made.{none-made, form-made}
+use Rattle.making.specs.Making.{formOf}
+use borrow.Author.Needs.{needs}
+use Rattle.capi.proofs.Answered.{says}
 use Rattle.capi.proofs.sheet_calls.ewf_make_form.Statement.{statement}
 use Rattle.capi.proofs.sheet_calls.ewf_make_form.Tie as tie
 
@@ -23,7 +26,8 @@ returns c =
     let told = c .before in
     let call = told .before .before .before .before in
     let given = call .before .before .before .before .args in
-    none-made (given .sheet .now) _ (given .form .now) (makingRefusal (given .sheet .now) (length (given .form .now))) (given .written .now) (call .make-form .ensures .0) (call .make-form .ensures .1) (told .n .given .1)
+    let said = says (makingRefusal (given .sheet .now) (length (given .form .now))) (length (formOf (given .sheet .now))) (given .written .now) _ (sym (call .make-form .ensures .0) ∙ ap answerOfLength (told .n .given .1)) in
+    (said .number, (said .result, call .make-form .ensures .1))
 
 same-length-2 : tie.Need-same-length-2
 same-length-2 c = search needs
@@ -33,7 +37,8 @@ returns-2 c =
     let told = c .before in
     let call = told .before .before .before .before in
     let given = call .before .before .before .before .args in
-    form-made (given .sheet .now) _ (given .form .now) (makingRefusal (given .sheet .now) (length (given .form .now))) (given .written .now) (call .make-form .ensures .0) (call .make-form .ensures .1) (told .n2 .given .1)
+    let said = says (makingRefusal (given .sheet .now) (length (given .form .now))) (length (formOf (given .sheet .now))) (given .written .now) _ (sym (call .make-form .ensures .0) ∙ ap answerOfLength (told .n2 .given .1)) in
+    (said .number, (said .result, call .make-form .ensures .1))
 
 pub ewf-make-form-spec : {M : Type 1} → statement M
 ewf-make-form-spec =

@@ -1,9 +1,10 @@
 -- `capi::tree_calls::ewf_walk` meets its contract: the answer's number, and its value behind the pointer.
-use mathlib.Core.Path.{sym, _∙_}
+use mathlib.Core.Path.{sym, ap, _∙_}
 use lib.ListN.{length}
+use Rattle.terms.specs.Answer.{answerOfMask}
 use Rattle.terms.specs.Calls.{walkRefusal, walkMask}
 use borrow.Author.Needs.{needs}
-use Rattle.capi.proofs.Answered.{walk-says}
+use Rattle.capi.proofs.Answered.{says}
 use Rattle.capi.proofs.tree_calls.ewf_walk.Statement.{statement}
 use Rattle.capi.proofs.tree_calls.ewf_walk.Tie as tie
 
@@ -24,8 +25,8 @@ returns c =
     let told = c .before in
     let call = told .before .before .before .before in
     let given = call .before .before .before .before .before .before .args in
-    let says = walk-says (walkRefusal (given .alphabet .now) (given .automaton .now) (given .tree .now) (length (given .masks .now))) (walkMask (given .alphabet .now) (given .automaton .now) (given .tree .now)) (given .mask .now) _ (sym (call .walk .ensures .0) ∙ told .n .given .1) in
-    (says .number, (call .walk .ensures .1, says .result))
+    let said = says (walkRefusal (given .alphabet .now) (given .automaton .now) (given .tree .now) (length (given .masks .now))) (walkMask (given .alphabet .now) (given .automaton .now) (given .tree .now)) (given .mask .now) _ (sym (call .walk .ensures .0) ∙ ap answerOfMask (told .n .given .1)) in
+    (said .number, (call .walk .ensures .1, said .result))
 
 same-length-2 : tie.Need-same-length-2
 same-length-2 c = search needs
@@ -35,8 +36,8 @@ returns-2 c =
     let told = c .before in
     let call = told .before .before .before .before in
     let given = call .before .before .before .before .before .before .args in
-    let says = walk-says (walkRefusal (given .alphabet .now) (given .automaton .now) (given .tree .now) (length (given .masks .now))) (walkMask (given .alphabet .now) (given .automaton .now) (given .tree .now)) (given .mask .now) _ (sym (call .walk .ensures .0) ∙ told .states .given .1) in
-    (says .number, (call .walk .ensures .1, says .result))
+    let said = says (walkRefusal (given .alphabet .now) (given .automaton .now) (given .tree .now) (length (given .masks .now))) (walkMask (given .alphabet .now) (given .automaton .now) (given .tree .now)) (given .mask .now) _ (sym (call .walk .ensures .0) ∙ ap answerOfMask (told .states .given .1)) in
+    (said .number, (call .walk .ensures .1, said .result))
 
 pub ewf-walk-spec : {M : Type 1} → statement M
 ewf-walk-spec =

@@ -1,10 +1,11 @@
 -- `capi::tree_calls::ewf_wrap` meets its contract: the answer's number, and its value behind the pointer.
-use mathlib.Core.Path.{sym, _∙_}
+use mathlib.Core.Path.{sym, ap, _∙_}
 use lib.ListN.{length}
+use Rattle.terms.specs.Answer.{answerOfLength}
 use Rattle.terms.specs.Sheet.{wrapped}
 use Rattle.terms.specs.Calls.{wrapRefusal}
 use borrow.Author.Needs.{needs}
-use Rattle.capi.proofs.Answered.{sheet-says}
+use Rattle.capi.proofs.Answered.{says}
 use Rattle.capi.proofs.tree_calls.ewf_wrap.Statement.{statement}
 use Rattle.capi.proofs.tree_calls.ewf_wrap.Tie as tie
 
@@ -25,8 +26,8 @@ returns c =
     let told = c .before in
     let call = told .before .before .before .before in
     let given = call .before .before .before .before .before .before .args in
-    let says = sheet-says (wrapRefusal (given .alphabet .now) (given .tree .now) (given .automaton .now) (length (given .sheet .now))) (length (wrapped (given .alphabet .now) (given .tree .now) (given .automaton .now))) (given .written .now) _ (sym (call .wrap .ensures .0) ∙ told .n .given .1) in
-    (says .number, (call .wrap .ensures .1, says .result))
+    let said = says (wrapRefusal (given .alphabet .now) (given .tree .now) (given .automaton .now) (length (given .sheet .now))) (length (wrapped (given .alphabet .now) (given .tree .now) (given .automaton .now))) (given .written .now) _ (sym (call .wrap .ensures .0) ∙ ap answerOfLength (told .n .given .1)) in
+    (said .number, (call .wrap .ensures .1, said .result))
 
 same-length-2 : tie.Need-same-length-2
 same-length-2 c = search needs
@@ -36,8 +37,8 @@ returns-2 c =
     let told = c .before in
     let call = told .before .before .before .before in
     let given = call .before .before .before .before .before .before .args in
-    let says = sheet-says (wrapRefusal (given .alphabet .now) (given .tree .now) (given .automaton .now) (length (given .sheet .now))) (length (wrapped (given .alphabet .now) (given .tree .now) (given .automaton .now))) (given .written .now) _ (sym (call .wrap .ensures .0) ∙ told .n2 .given .1) in
-    (says .number, (call .wrap .ensures .1, says .result))
+    let said = says (wrapRefusal (given .alphabet .now) (given .tree .now) (given .automaton .now) (length (given .sheet .now))) (length (wrapped (given .alphabet .now) (given .tree .now) (given .automaton .now))) (given .written .now) _ (sym (call .wrap .ensures .0) ∙ ap answerOfLength (told .n2 .given .1)) in
+    (said .number, (call .wrap .ensures .1, said .result))
 
 pub ewf-wrap-spec : {M : Type 1} → statement M
 ewf-wrap-spec =

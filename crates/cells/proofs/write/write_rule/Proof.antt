@@ -17,9 +17,6 @@ cast-copy-at c = search needs
 mul-copy-at : tie.Need-mul-copy-at
 mul-copy-at c = search needs
 
-add-copy-at : tie.Need-add-copy-at
-add-copy-at c = search needs
-
 copy-at-requires : tie.Need-copy-at-requires
 copy-at-requires c κs = search needs
 
@@ -32,8 +29,8 @@ returns c =
     let bytes = copied .before .before .before .before in
     let start = bytes .before .before in
     let a = start .args in
-    rule-written (a .number .0) (a .rule) _ _ (now (a .form)) (start .pre) (bytes .rule-bytes .ensures) (copied .copy-at .ensures)
+    rule-written (a .number .0) (a .rule) _ _ (now (a .table)) (start .pre) (bytes .rule-bytes .ensures) (copied .copy-at .ensures)
 
 pub write-rule-spec : {M : Type 1} → statement M
 write-rule-spec =
-    tie.close (tie.spec rule-bytes-requires slice-aggregate-copy-at cast-copy-at mul-copy-at add-copy-at copy-at-requires same-length returns)
+    tie.close (tie.spec rule-bytes-requires slice-aggregate-copy-at cast-copy-at mul-copy-at copy-at-requires same-length returns)

@@ -5,15 +5,34 @@ use native.Mathlib.Omega.{arith}
 use borrow.Author.Needs.{needs}
 use lib.ListN.{length, take, drop}
 use lib.Seq.{length-take-le}
+use denote.Ref.{now}
+use Rattle.terms.specs.Answer.{answerOfLength}
+use Rattle.making.specs.Making.{Makes}
+use Rattle.making.proofs.Formed.{makes, Wrote, wrote}
 use Rattle.certificate.proofs.Sheet.{Parts, parts-of}
-use Rattle.certificate.proofs.Made.{written-within, handed-on, calls-follow}
+use Rattle.certificate.proofs.Made.{handed-on, calls-follow}
 use Rattle.certificate.proofs.Certified.{calls-certify}
 use Rattle.certificate.proofs.certify.certify.Statement.{statement}
 use Rattle.certificate.proofs.certify.certify.Tie as tie
 
+abbrev begin : tie.After-make-form → tie.Start
+begin c = c .before .before .before .before .before .before .before .before
+
+-- what form making answered and left
+made : (c : tie.After-make-form) → Makes (now (begin c .args .sheet)) (answerOfLength (c .make-form .result)) (c .make-form .last .1 .0) (now (begin c .args .form))
+made c = makes _ (now (begin c .args .form)) (c .make-form .ensures)
+
+-- the form that was written
+abbrev called : tie.After-n2 → tie.After-make-form
+called c = c .before .before .before .before
+
+wrote-form : (c : tie.After-n2) → let call = called c in
+    Wrote (now (begin call .args .sheet)) (c .n2 .given .0 .0) (length (now (begin call .args .form))) (call .make-form .last .1 .0)
+wrote-form c = wrote (made (called c)) (ap answerOfLength (c .n2 .given .1))
+
 -- what is known of the sheet where its form was written
-parts : (c : tie.After-n2) → Parts (c .before .before .before .before .before .before .before .before .before .before .before .before .args .sheet .now)
-parts c = parts-of _ _ (c .n2 .given .1) (c .before .before .before .before .make-form .ensures .0)
+parts : (c : tie.After-n2) → Parts (now (begin (called c) .args .sheet))
+parts c = parts-of _ _ (wrote-form c .passes)
 
 make-form-requires : tie.Need-make-form-requires
 make-form-requires c κs = search needs
@@ -52,15 +71,11 @@ part-run-end-2 c = search needs
 
 slice-reshare-prefix-run : tie.Need-slice-reshare-prefix-run
 slice-reshare-prefix-run c =
-    let told = c .before .before .before .before .before in
-    let form = told .before .before .before in
-    written-within _ _ _ (told .n2 .given .1) (form .before .make-form .ensures .1) (form .form .given)
+    wrote-form (c .before .before .before .before .before) .within
 
 slice-aggregate-run : tie.Need-slice-aggregate-run
 slice-aggregate-run c =
-    let told = c .before .before .before .before .before .before in
-    let form = told .before .before .before in
-    sym (length-take-le _ _ (written-within _ _ _ (told .n2 .given .1) (form .before .make-form .ensures .1) (form .form .given)))
+    sym (length-take-le _ _ (wrote-form (c .before .before .before .before .before .before) .within))
 
 run-requires : tie.Need-run-requires
 run-requires c κs = search needs
@@ -71,8 +86,7 @@ same-length c = search needs
 returns : tie.Need-returns
 returns c =
     let call = c .before .before .before .before .before in
-    let given = call .before .before .before .before .before .before .before .before .args in
-    let calls = handed-on (given .sheet .now) (given .form .now) _ (call .make-form .ensures .0) (call .make-form .ensures .1) (c .before .n .given .1) _ in
+    let calls = handed-on (made call) (ap answerOfLength (c .before .n .given .1)) _ in
     (calls, λ passes room. calls-certify _ _ _ _ _ _ passes room calls)
 
 same-length-2 : tie.Need-same-length-2
@@ -95,13 +109,12 @@ returns-2 c =
     let run = c .before .before .before .before .before .before .before .before in
     let words = run .before .before .before .before .before .before .before .before in
     let told = words .before .before .before in
-    let form = told .before .before .before in
-    let call = form .before in
-    let given = call .before .before .before .before .before .before .before .before .args in
+    let call = called told in
+    let given = begin call .args in
     let known = parts told in
     let alphabet = ap (λ (x : ℕ). take (x - 12) (drop 12 (given .sheet .now))) (words .before .word .ensures .0) ∙ known .alphabet in
     let automaton = ap (λ (x : ℕ). take (length (given .sheet .now) - x) (drop x (given .sheet .now))) (words .word2 .ensures .0) ∙ known .automaton in
-    let calls = calls-follow (given .sheet .now) (given .form .now) _ (call .make-form .ensures .0) (call .make-form .ensures .1) (told .n2 .given .1) (written-within _ _ _ (told .n2 .given .1) (call .make-form .ensures .1) (form .form .given)) alphabet automaton (run .run .ensures) in
+    let calls = calls-follow (made call) (ap answerOfLength (told .n2 .given .1)) (wrote-form told .within) alphabet automaton (run .run .ensures) in
     (calls, λ passes room. calls-certify _ _ _ _ _ _ passes room calls)
 
 pub certify-spec : {M : Type 1} → statement M

@@ -37,7 +37,7 @@ returns c =
     record {
       made = refl;
       evaluated = mask .evaluate .ensures .0;
-      relations = mask .evaluate .ensures .1;
+      relations = mask .evaluate .ensures .1 .0;
       unfolded = record { answered = nodes .«unfold» .ensures .0; counted = nodes .«unfold» .ensures .1 .1; written = nodes .«unfold» .ensures .1 .0 };
       walked = walk .walk-unfolded .ensures;
     }

@@ -1,10 +1,11 @@
 -- `certificate::certify::walk_unfolded` meets its contract.
-use mathlib.Core.Path.{sym, subst}
+use mathlib.Core.Path.{sym, ap, subst}
 use lib.ListN.{length}
 use lib.Seq.{length-take-le}
 use borrow.Author.Needs.{needs}
-use Rattle.unfolding.specs.declared.unfold.Unfolding.{Unfolding}
-use Rattle.certificate.specs.Private.Within.{Within}
+use Rattle.terms.specs.Answer.{answerOfLength}
+use Rattle.terms.specs.declared.answers.LengthAnswer.{LengthAnswer}
+use Rattle.terms.specs.Private.Within.{Within}
 use Rattle.certificate.proofs.Handed.{none-walked, nodes-walked}
 use Rattle.certificate.proofs.certify.walk_unfolded.Statement.{statement}
 use Rattle.certificate.proofs.certify.walk_unfolded.Tie as tie
@@ -19,7 +20,7 @@ slice-aggregate-walk : tie.Need-slice-aggregate-walk
 slice-aggregate-walk c =
     let told = c .before .before in
     let start = told .before .before .before .before .before .before in
-    sym (length-take-le _ (start .args .tree .now) (subst (λ (u : Unfolding). Within u (length (start .args .tree .now))) (told .unfolded2 .given .1) (start .pre)))
+    sym (length-take-le _ (start .args .tree .now) (subst (λ (u : LengthAnswer). Within (answerOfLength u) (length (start .args .tree .now))) (told .unfolded2 .given .1) (start .pre)))
 
 walk-requires : tie.Need-walk-requires
 walk-requires c κs = search needs
@@ -28,7 +29,7 @@ returns : tie.Need-returns
 returns c =
     let told = c .before in
     let given = told .before .before .before .before .before .before .args in
-    none-walked (given .alphabet .now) (given .automaton .now) (given .tree .now) (told .unfolded .given .1) (given .masks .now)
+    none-walked (given .alphabet .now) (given .automaton .now) (given .tree .now) (ap answerOfLength (told .unfolded .given .1)) (given .masks .now)
 
 same-length : tie.Need-same-length
 same-length c = search needs
@@ -38,7 +39,7 @@ returns-2 c =
     let call = c .before .before in
     let told = call .before .before .before .before in
     let given = told .before .before .before .before .before .before .args in
-    nodes-walked (given .alphabet .now) (given .automaton .now) (given .tree .now) (told .unfolded2 .given .1) (given .masks .now) (call .walk .ensures .0) (call .walk .ensures .1)
+    nodes-walked (given .alphabet .now) (given .automaton .now) (given .tree .now) (ap answerOfLength (told .unfolded2 .given .1)) (given .masks .now) (call .walk .ensures .0) (call .walk .ensures .1)
 
 pub walk-unfolded-spec : {M : Type 1} → statement M
 walk-unfolded-spec =

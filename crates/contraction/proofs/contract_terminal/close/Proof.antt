@@ -14,17 +14,17 @@ rule-over-requires c κs =
 add-rule-requires : tie.Need-add-rule-requires
 add-rule-requires c κs = search needs
 
-add-cell-requires : tie.Need-add-cell-requires
-add-cell-requires c κs = search needs
+add-closed-requires : tie.Need-add-closed-requires
+add-closed-requires c κs = search needs
 
 same-length : tie.Need-same-length
 same-length c = search needs
 
 returns : tie.Need-returns
 returns c =
-    let rule = c .before .before .before .before .before in
-    closes _ _ _ (rule .before .before .rule-over .ensures) (rule .add-rule .ensures) (c .add-cell .ensures)
+    let added = c .before .before .before .before in
+    closes _ _ _ (added .before .before .before .rule-over .ensures) (added .add-rule .ensures) (c .add-closed .ensures)
 
 pub close-spec : {M : Type 1} → statement M
 close-spec =
-    tie.close (tie.spec rule-over-requires add-rule-requires add-cell-requires same-length returns)
+    tie.close (tie.spec rule-over-requires add-rule-requires add-closed-requires same-length returns)

@@ -31,8 +31,8 @@ pierce-requires c κs =
 enum-told-2 : tie.Need-enum-told-2
 enum-told-2 c = search needs
 
-branch-requires : tie.Need-branch-requires
-branch-requires c κs = search needs
+add-terminal-requires : tie.Need-add-terminal-requires
+add-terminal-requires c κs = search needs
 
 same-length : tie.Need-same-length
 same-length c = search needs
@@ -57,7 +57,7 @@ returns-3 c =
     let told = c .before .before in
     let found = told .before .before in
     let start = found .before .before .before .before in
-    grows _ _ _ Several (told .enum-told2 .given .1) (found .open-among .ensures) (branches _ _ _ (omega (arith, start .good)) (start .pre .1 .few) (c .branch .ensures))
+    grows _ _ _ Several (told .enum-told2 .given .1) (found .open-among .ensures) (branches _ _ _ (omega (arith, start .good)) (start .pre .1 .few) (c .add-terminal .ensures))
 
 pub contract-terminal-spec : {M : Type 1} → statement M
 contract-terminal-spec =
@@ -69,7 +69,7 @@ contract-terminal-spec =
     enum-known-place
     pierce-requires
     enum-told-2
-    branch-requires
+    add-terminal-requires
     same-length
     returns
     same-length-2

@@ -17,19 +17,19 @@ loop-holds c = (omega arith, sorted-none _ _ _)
 sub-j : tie.Need-sub-j Inv-loop μ-loop
 sub-j c = omega arith
 
-cast-field : tie.Need-cast-field Inv-loop μ-loop
-cast-field c = omega arith
+cast-is-closed : tie.Need-cast-is-closed Inv-loop μ-loop
+cast-is-closed c = omega arith
 
-mul-field : tie.Need-mul-field Inv-loop μ-loop
-mul-field c = omega arith
+mul-is-closed : tie.Need-mul-is-closed Inv-loop μ-loop
+mul-is-closed c = omega arith
 
-shared-slice-read-field : tie.Need-shared-slice-read-field Inv-loop μ-loop
-shared-slice-read-field c = omega arith
+shared-slice-read-is-closed : tie.Need-shared-slice-read-is-closed Inv-loop μ-loop
+shared-slice-read-is-closed c = omega arith
 
-field-requires : tie.Need-field-requires Inv-loop μ-loop
-field-requires c κs =
+is-closed-requires : tie.Need-is-closed-requires Inv-loop μ-loop
+is-closed-requires c κs =
     let start = c .before .before .before .before in
-    (start .pre .0, start .pre .1 .each (c .before .before .loop .j - 1) (omega arith), omega arith)
+    (start .pre .0, start .pre .1 .each (c .before .before .loop .j - 1) (omega arith))
 
 with-child-requires : tie.Need-with-child-requires Inv-loop μ-loop
 with-child-requires c κs = tt
@@ -42,7 +42,7 @@ loop-again c =
     let turn = c .before .before .before .before in (
       omega arith,
       sorted-turn _ _ _ (turn .loop .j - 1) (turn .loop .j) _ _ (omega arith) (omega arith) (omega arith) (turn .loop .inv .1)
-          (rw (c .before .field .ensures) at (c .with-child .ensures)),
+          (rw (c .before .is-closed .ensures) at (c .with-child .ensures)),
     )
 
 returns : tie.Need-returns Inv-loop μ-loop
@@ -56,10 +56,10 @@ open-among-spec =
     μ-loop
     loop-holds
     sub-j
-    cast-field
-    mul-field
-    shared-slice-read-field
-    field-requires
+    cast-is-closed
+    mul-is-closed
+    shared-slice-read-is-closed
+    is-closed-requires
     with-child-requires
     loop-less
     loop-again

@@ -17,24 +17,24 @@ returns-2 c =
     let a = c .before .before .before .args in
     rw (lt-ltb _ _ (c .before .if1 .left), eq-eqb (suc (a .j)) (a .hole) (omega arith))
 
-mul-field : tie.Need-mul-field
-mul-field c = search needs
+mul-closed-rule : tie.Need-mul-closed-rule
+mul-closed-rule c = search needs
 
-shared-slice-read-field : tie.Need-shared-slice-read-field
-shared-slice-read-field c = search needs
+shared-slice-read-closed-rule : tie.Need-shared-slice-read-closed-rule
+shared-slice-read-closed-rule c = search needs
 
-field-requires : tie.Need-field-requires
-field-requires c κs =
+closed-rule-requires : tie.Need-closed-rule-requires
+closed-rule-requires c κs =
     let start = c .before .before .before .before in
-    (start .pre .0, start .pre .1 .each (start .args .j) (omega arith), omega arith)
+    (start .pre .0, start .pre .1 .each (start .args .j) (omega arith))
 
 returns-3 : tie.Need-returns-3
 returns-3 c =
     let tests = c .before .before in
     let a = tests .before .before .before .args in
-    rw (c .field .ensures, lt-ltb _ _ (tests .before .if1 .left), ne-eqb (suc (a .j)) (a .hole) (λ e. tests .if2 .left (omega arith)))
+    rw (c .closed-rule .ensures, lt-ltb _ _ (tests .before .if1 .left), ne-eqb (suc (a .j)) (a .hole) (λ e. tests .if2 .left (omega arith)))
 
 pub slot-spec : {M : Type 1} → statement M
 slot-spec =
     tie.close
-    (tie.spec returns add-if2 returns-2 mul-field shared-slice-read-field field-requires returns-3)
+    (tie.spec returns add-if2 returns-2 mul-closed-rule shared-slice-read-closed-rule closed-rule-requires returns-3)

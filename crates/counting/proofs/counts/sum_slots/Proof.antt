@@ -4,18 +4,17 @@ use Prim.Native.Nat.{ℕ, _+_, _-_, _≤_, _<_}
 use native.Mathlib.Omega.{arith}
 use Rattle.terms.specs.FormBytes.{slotOf}
 use Rattle.terms.specs.Count.{capped}
-use Rattle.counting.specs.Private.Counts.{total}
-use Rattle.counting.specs.Private.Counts.{ownIn, slotsFrom}
+use Rattle.counting.specs.Private.Counts.{total, ownIn, slotsFrom}
 use Rattle.counting.proofs.Slots.{slots-none, slots-back}
 use Rattle.counting.proofs.counts.sum_slots.Statement.{statement}
 use Rattle.counting.proofs.counts.sum_slots.Tie as tie
 
 abbrev Inv-loop : tie.InvT-loop
-Inv-loop form counts i from to sum₀ j₀ sum j =
-    (from ≤ j) × (j ≤ to) × (sum ≡ capped (total (ownIn counts) (slotsFrom (slotOf form i) j to)))
+Inv-loop table counts rule from to sum₀ j₀ sum j =
+    (from ≤ j) × (j ≤ to) × (sum ≡ capped (total (ownIn counts) (slotsFrom (slotOf table (rule .0)) j to)))
 
 abbrev μ-loop : tie.MeasureT-loop
-μ-loop form counts i from to sum₀ j₀ sum j = j
+μ-loop table counts rule from to sum₀ j₀ sum j = j
 
 -- the slot before j, and those from j on
 sum-more : (own slot : ℕ → ℕ) (j to : ℕ) → 0 < j → j ≤ to
@@ -25,7 +24,7 @@ sum-more own slot j to h k = rw (slots-back slot j to h k) (omega arith)
 loop-holds : tie.Need-loop-holds Inv-loop μ-loop
 loop-holds c =
     let a = c .before .before .args in
-    (omega arith, omega arith, sym (ap (λ slots. capped (total (ownIn (a .counts .now)) slots)) (slots-none (slotOf (a .form .now) (a .i)) (a .to) (a .to) (omega arith))))
+    (omega arith, omega arith, sym (ap (λ slots. capped (total (ownIn (a .counts .now)) slots)) (slots-none (slotOf (a .table .now) (a .rule .0)) (a .to) (a .to) (omega arith))))
 
 sub-j : tie.Need-sub-j Inv-loop μ-loop
 sub-j c = omega arith
@@ -47,7 +46,7 @@ loop-again : tie.Need-loop-again Inv-loop μ-loop
 loop-again c =
     let turn = c .before .before .before in
     let a = turn .before .before .before .before .args in
-    let slot = slotOf (a .form .now) (a .i) in (
+    let slot = slotOf (a .table .now) (a .rule .0) in (
       omega arith,
       omega arith,
       c .add-capped .ensures

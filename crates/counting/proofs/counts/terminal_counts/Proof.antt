@@ -1,16 +1,15 @@
 -- `counting::counts::terminal_counts` meets its contract: the node of the terminal and those of the slots, before the open place and behind it.
 use mathlib.Core.Path.{_≡_, refl, sym, _∙_, ap}
 use mathlib.Core.List.{List}
-use Prim.Native.Nat.{ℕ, _+_, _-_, _≤_}
+use Prim.Native.Nat.{ℕ, _+_, _*_, _-_, _≤_}
 use native.Mathlib.Omega.{arith}
 use borrow.Author.Needs.{needs}
 use lib.ListN.{length}
 use Rattle.terms.specs.Test.{tabulate}
 use Rattle.terms.specs.Form.{Rule, whole, pierced}
-use Rattle.terms.specs.FormBytes.{ruleOffset, ruleByte, slotOf}
+use Rattle.terms.specs.FormBytes.{ruleLength, ruleByte, slotOf}
 use Rattle.terms.specs.Count.{capped}
-use Rattle.counting.specs.Private.Counts.{total}
-use Rattle.counting.specs.Private.Counts.{ownIn, slotsFrom, CountedRule}
+use Rattle.counting.specs.Private.Counts.{total, ownIn, slotsFrom, CountedRule}
 use Rattle.counting.proofs.Slots.{slots-all}
 use Rattle.forms.proofs.Rules.{rule-whole, is-whole, is-pierced, hole-within}
 use Rattle.counting.proofs.Readable.{whole-readable, left-readable, right-readable}
@@ -32,8 +31,8 @@ module _ (counts : List ℕ) (rule : Rule) (f n : ℕ) (slot : ℕ → ℕ) wher
       let l = ap (λ slots. capped (total (ownIn counts) slots)) (slots-all slot (h - 1)) in
       rw e (record { own = omega arith; prior = omega arith })
 
-rule-long : (s : tie.Start) → ruleOffset (s .args .i) + 12 ≤ length (s .args .form .now)
-rule-long s = rule-whole _ _ (s .pre .0) (s .pre .1) (s .args .i) (s .pre .2)
+rule-long : (s : tie.Start) → ruleLength * s .args .rule .0 + ruleLength ≤ length (s .args .table .now)
+rule-long s = rule-whole _ _ (s .pre .0) (s .args .rule .0) (s .pre .1)
 
 abbrev begin : tie.After-rank-at → tie.Start
 begin c = c .before .before .before .before
@@ -42,8 +41,8 @@ abbrev ranked : tie.After-hole-of → tie.After-rank-at
 ranked c = c .before .before .before
 
 -- not of kind 0, so of kind 1
-kind-is : (c : tie.Else1) → let a = begin (c .before .before) .args in ruleByte (a .form .now) (a .i) 0 ≡ 1
-kind-is c = omega (arith, c .before .kind-of .ensures, begin (c .before .before) .pre .4, c .if1 .left)
+kind-is : (c : tie.Else1) → let a = begin (c .before .before) .args in ruleByte (a .table .now) (a .rule .0) 0 ≡ 1
+kind-is c = omega (arith, c .before .kind-of .ensures, begin (c .before .before) .pre .3, c .if1 .left)
 
 rank-at-requires : tie.Need-rank-at-requires
 rank-at-requires c κs = rule-long (c .before .before .before)
@@ -55,7 +54,7 @@ sum-slots-requires : tie.Need-sum-slots-requires
 sum-slots-requires c κs =
     let s = begin (c .before .before) in
     let kind = sym (c .before .kind-of .ensures) ∙ c .if1 .taken in
-    rw (c .before .before .rank-at .ensures) (whole-readable _ _ (s .pre .0) (s .pre .1) (s .args .i) (s .pre .2) (s .args .counts .now) (s .pre .3) kind)
+    rw (c .before .before .rank-at .ensures) (whole-readable _ _ (s .pre .0) (s .args .rule .0) (s .pre .1) (s .args .counts .now) (s .pre .2) kind)
 
 add-capped-requires : tie.Need-add-capped-requires
 add-capped-requires c κs = search needs
@@ -66,8 +65,8 @@ returns c =
     let p = s .pre in
     let a = s .args in
     let kind = sym (c .before .before .before .kind-of .ensures) ∙ c .before .before .if1 .taken in
-    counted-whole (a .counts .now) _ _ _ (slotOf (a .form .now) (a .i)) _ _
-    (is-whole _ _ (p .0) (p .1) (a .i) (p .2) kind)
+    counted-whole (a .counts .now) _ _ _ (slotOf (a .table .now) (a .rule .0)) _ _
+    (is-whole _ _ (p .0) (a .rule .0) (p .1) kind)
     (rw (c .before .before .before .before .rank-at .ensures) at (c .before .sum-slots .ensures))
     (c .add-capped .ensures)
 
@@ -80,12 +79,12 @@ cast-hole c = search needs
 sub-sum-slots : tie.Need-sub-sum-slots
 sub-sum-slots c =
     let s = begin (ranked c) in
-    omega (arith, hole-within _ _ (s .pre .0) (s .pre .1) (s .args .i) (s .pre .2) (kind-is (c .before)) .0, c .hole-of .ensures)
+    omega (arith, hole-within _ _ (s .pre .0) (s .args .rule .0) (s .pre .1) (kind-is (c .before)) .0, c .hole-of .ensures)
 
 sum-slots-requires-2 : tie.Need-sum-slots-requires-2
 sum-slots-requires-2 c κs =
     let s = begin (ranked c) in
-    rw (c .hole-of .ensures) (left-readable _ _ (s .pre .0) (s .pre .1) (s .args .i) (s .pre .2) (s .args .counts .now) (s .pre .3) (kind-is (c .before)))
+    rw (c .hole-of .ensures) (left-readable _ _ (s .pre .0) (s .args .rule .0) (s .pre .1) (s .args .counts .now) (s .pre .2) (kind-is (c .before)))
 
 add-capped-requires-2 : tie.Need-add-capped-requires-2
 add-capped-requires-2 c κs = search needs
@@ -95,7 +94,7 @@ sum-slots-requires-3 c κs =
     let h = c .before .before in
     let s = begin (ranked h) in
     rw (h .hole-of .ensures, ranked h .rank-at .ensures)
-    (right-readable _ _ (s .pre .0) (s .pre .1) (s .args .i) (s .pre .2) (s .args .counts .now) (s .pre .3) (kind-is (h .before)))
+    (right-readable _ _ (s .pre .0) (s .args .rule .0) (s .pre .1) (s .args .counts .now) (s .pre .2) (kind-is (h .before)))
 
 add-capped-requires-3 : tie.Need-add-capped-requires-3
 add-capped-requires-3 c κs = search needs
@@ -106,8 +105,8 @@ returns-2 c =
     let s = begin (ranked h) in
     let p = s .pre in
     let a = s .args in
-    counted-pierced (a .counts .now) _ _ _ (slotOf (a .form .now) (a .i)) _ _ _ _ _
-    (is-pierced _ _ (p .0) (p .1) (a .i) (p .2) (kind-is (h .before)))
+    counted-pierced (a .counts .now) _ _ _ (slotOf (a .table .now) (a .rule .0)) _ _ _ _ _
+    (is-pierced _ _ (p .0) (a .rule .0) (p .1) (kind-is (h .before)))
     (rw (h .hole-of .ensures) at (c .before .before .before .sum-slots2 .ensures))
     (c .before .before .add-capped2 .ensures)
     (rw (h .hole-of .ensures, ranked h .rank-at .ensures) at (c .before .sum-slots3 .ensures))

@@ -1,22 +1,13 @@
 -- `evaluation::evaluate::evaluate` meets its contract: a refusal is answered by its number and leaves the slice as it was; else the answer and the slice are
 -- those of the evaluation that follows the checks.
-use mathlib.Core.Path.{_≡_, ap}
-use Prim.Native.Nat.{ℕ, zero, suc}
-use native.Mathlib.Omega.{arith}
+use mathlib.Core.Path.{sym, _∙_}
 use borrow.Author.Needs.{needs}
+use Rattle.terms.proofs.Answer.{is-refused, is-answered}
 use Rattle.terms.proofs.Lent.{lent-kept, lent-written}
-use Rattle.evaluation.specs.Evaluation.{evaluationAfter}
-use Rattle.evaluation.specs.declared.evaluate.Evaluation.the-variants.{Refused, Mask}
+use Rattle.evaluation.proofs.Passed.{evaluation-passed}
+use Rattle.evaluation.proofs.Entries.{right-by-runs}
 use Rattle.evaluation.proofs.evaluate.evaluate.Statement.{statement}
 use Rattle.evaluation.proofs.evaluate.evaluate.Tie as tie
-
-answer-refused : {r n : ℕ} (mask : ℕ) → r ≡ n → (r ≡ 0 → ⊥) → Refused r ≡ evaluationAfter n mask
-answer-refused {n = zero} mask e h = absurd (h e)
-answer-refused {n = suc n} mask e h = ap Refused e
-
-answer-mask : {r n m mask : ℕ} → r ≡ n → r ≡ 0 → m ≡ mask → Mask m ≡ evaluationAfter n mask
-answer-mask {n = zero} e z h = ap Mask h
-answer-mask {n = suc n} e z h = absurd (omega arith)
 
 evaluation-refusal-requires : tie.Need-evaluation-refusal-requires
 evaluation-refusal-requires c κs = search needs
@@ -24,7 +15,7 @@ evaluation-refusal-requires c κs = search needs
 returns : tie.Need-returns
 returns c =
     let e = c .before .evaluation-refusal .ensures in
-    (answer-refused _ e (c .if1 .taken), lent-kept _ _ e (c .if1 .taken))
+    (is-refused _ e (c .if1 .taken), (lent-kept _ _ e (c .if1 .taken), tt))
 
 evaluate-checked-requires : tie.Need-evaluate-checked-requires
 evaluate-checked-requires c κs = search needs
@@ -37,7 +28,10 @@ returns-2 c =
     let call = c .before .before in
     let passes = call .before .before in
     let e = passes .before .evaluation-refusal .ensures in
-    (answer-mask e (passes .if1 .left) (call .evaluate-checked .ensures .0), lent-written _ _ e (passes .if1 .left) (call .evaluate-checked .ensures .1))
+    let (mask, written) = call .evaluate-checked .ensures in (
+      is-answered e (passes .if1 .left) mask,
+      (lent-written _ _ e (passes .if1 .left) written, right-by-runs (evaluation-passed _ _ _ _ (sym e ∙ passes .if1 .left)) _ _ written _ mask),
+    )
 
 pub evaluate-spec : {M : Type 1} → statement M
 evaluate-spec =

@@ -10,16 +10,16 @@ use Rattle.form_bytes.proofs.rule.rule_at.Statement.{statement}
 use Rattle.form_bytes.proofs.rule.rule_at.Tie as tie
 
 -- a rule whose fields are those of rule i is rule i
-by-fields : (form : List ℕ) (i : ℕ) (rule : FormRule)
-    → rule .kind ≡ ruleByte form i 0
-    → rule .terminal .0 ≡ ruleByte form i 1
-    → rule .hole ≡ ruleByte form i 2
-    → rule .slot0 .0 ≡ slotOf form i 0
-    → rule .slot1 .0 ≡ slotOf form i 1
-    → rule .slot2 .0 ≡ slotOf form i 2
-    → rule .slot3 .0 ≡ slotOf form i 3
-    → rule ≡ fieldsAt form i
-by-fields form i rule kind terminal hole slot0 slot1 slot2 slot3 =
+by-fields : (table : List ℕ) (i : ℕ) (rule : FormRule)
+    → rule .kind ≡ ruleByte table i 0
+    → rule .terminal .0 ≡ ruleByte table i 1
+    → rule .hole ≡ ruleByte table i 2
+    → rule .slot0 .0 ≡ slotOf table i 0
+    → rule .slot1 .0 ≡ slotOf table i 1
+    → rule .slot2 .0 ≡ slotOf table i 2
+    → rule .slot3 .0 ≡ slotOf table i 3
+    → rule ≡ fieldsAt table i
+by-fields table i rule kind terminal hole slot0 slot1 slot2 slot3 =
     λ j. record {
       kind = kind j;
       terminal = record { 0 = terminal j };
@@ -29,9 +29,6 @@ by-fields form i rule kind terminal hole slot0 slot1 slot2 slot3 =
       slot2 = record { 0 = slot2 j };
       slot3 = record { 0 = slot3 j };
     }
-
-cast-place : tie.Need-cast-place
-cast-place c = search needs
 
 kind-of-requires : tie.Need-kind-of-requires
 kind-of-requires c κs = search needs
@@ -71,7 +68,6 @@ pub rule-at-spec : {M : Type 1} → statement M
 rule-at-spec =
     tie.close
     (tie.spec
-    cast-place
     kind-of-requires
     terminal-of-requires
     hole-of-requires

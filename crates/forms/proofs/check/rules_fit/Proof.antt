@@ -1,28 +1,28 @@
--- `forms::check::rules_fit` meets its contract. The invariant: all rules fit if those below i do. Each lies inside the form, which has room for all.
-use mathlib.Core.Path.{_≡_, sym}
+-- `forms::check::rules_fit` meets its contract. The invariant: all rules fit if those below the number do. Each lies inside the table, which has room for all.
+use mathlib.Core.Path.{_≡_, refl, sym}
 use Prim.Native.Nat.{_≤_}
 use native.Mathlib.Omega.{arith}
 use Rattle.terms.specs.Test.{every}
-use Rattle.terms.specs.FormBytes.{ruleCount, ruleFits}
+use Rattle.terms.specs.FormBytes.{ruleFits}
 use Rattle.terms.proofs.Scan.{every-fails, every-passes, every-done}
-use Rattle.forms.proofs.Laws.{failed, passed}
+use Rattle.rule_checks.proofs.Laws.{failed, passed}
 use Rattle.forms.proofs.check.rules_fit.Statement.{statement}
 use Rattle.forms.proofs.check.rules_fit.Tie as tie
 
 abbrev Inv-loop : tie.InvT-loop
-Inv-loop alphabet form i₀ i = (i ≤ ruleCount form) × (every (ruleCount form) (ruleFits alphabet form) ≡ every i (ruleFits alphabet form))
+Inv-loop alphabet table count number₀ number = (number ≤ count) × (every count (ruleFits alphabet table) ≡ every number (ruleFits alphabet table))
 
 abbrev μ-loop : tie.MeasureT-loop
-μ-loop alphabet form i₀ i = i
+μ-loop alphabet table count number₀ number = number
 
-rule-count-requires : tie.Need-rule-count-requires Inv-loop μ-loop
-rule-count-requires c κs = omega arith
+cast-number : tie.Need-cast-number Inv-loop μ-loop
+cast-number c = omega arith
 
 loop-holds : tie.Need-loop-holds Inv-loop μ-loop
-loop-holds c = (omega arith, rw (c .rule-count .ensures .0))
+loop-holds c = (omega arith, refl)
 
-sub-i : tie.Need-sub-i Inv-loop μ-loop
-sub-i c = omega arith
+sub-number : tie.Need-sub-number Inv-loop μ-loop
+sub-number c = omega arith
 
 rule-fits-requires : tie.Need-rule-fits-requires Inv-loop μ-loop
 rule-fits-requires c κs = omega arith
@@ -45,4 +45,4 @@ returns-2 c = sym (every-done _ _ _ (c .before .loop .inv .1) (c .loop-test .lef
 
 pub rules-fit-spec : {M : Type 1} → statement M
 rules-fit-spec =
-    tie.close (tie.spec Inv-loop μ-loop rule-count-requires loop-holds sub-i rule-fits-requires returns loop-less loop-again returns-2)
+    tie.close (tie.spec Inv-loop μ-loop cast-number loop-holds sub-number rule-fits-requires returns loop-less loop-again returns-2)

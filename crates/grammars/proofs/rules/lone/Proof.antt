@@ -2,7 +2,7 @@
 use mathlib.Core.Path.{sym, _∙_, ap}
 use borrow.Author.Needs.{needs}
 use Rattle.terms.specs.Check.{anyParameter}
-use Rattle.grammars.proofs.Node.{not-lone, lone-node}
+use Rattle.nodes.proofs.Node.{not-lone, lone-node}
 use Rattle.grammars.proofs.rules.lone.Statement.{statement}
 use Rattle.grammars.proofs.rules.lone.Tie as tie
 

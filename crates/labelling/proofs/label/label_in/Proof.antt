@@ -2,17 +2,17 @@
 use mathlib.Core.Path.{_≡_, refl, sym, _∙_}
 use native.Mathlib.Omega.{arith}
 use borrow.Author.Needs.{needs}
-use Rattle.labelling.specs.Private.Position.{symbolAt, Position, Lies}
+use Rattle.places.specs.Position.{symbolAt, Position, Lies}
 use Rattle.labelling.proofs.label.label_in.Statement.{statement}
 use Rattle.labelling.proofs.label.label_in.Tie as tie
 
 abbrev Inv-loop : tie.InvT-loop
-Inv-loop alphabet form counts position at₀ at =
-    Position alphabet form counts (at .rule .0) (at .position)
-    × (symbolAt alphabet form (at .rule .0) (at .position) ≡ symbolAt alphabet form (at₀ .rule .0) (at₀ .position))
+Inv-loop alphabet table counts position at₀ at =
+    Position alphabet table counts (at .rule .0) (at .position)
+    × (symbolAt alphabet table (at .rule .0) (at .position) ≡ symbolAt alphabet table (at₀ .rule .0) (at₀ .position))
 
 abbrev μ-loop : tie.MeasureT-loop
-μ-loop alphabet form counts position at₀ at = at .rule .0
+μ-loop alphabet table counts position at₀ at = at .rule .0
 
 loop-holds : tie.Need-loop-holds Inv-loop μ-loop
 loop-holds c = (c .before .before .before .pre, refl)
@@ -33,7 +33,7 @@ enum-known-lower c = search needs
 leads : (c : tie.After-known-told2 Inv-loop μ-loop) → let a = c .before .before .before .before .before .before .before .before .args in
     let at = c .before .before .before .before .loop .at in
     let lower = c .before .lower .given .0 .0 in
-    Lies (a .alphabet .now) (a .form .now) (at .rule .0) (at .position) (lower .rule .0) (lower .position)
+    Lies (a .alphabet .now) (a .table .now) (at .rule .0) (at .position) (lower .rule .0) (lower .position)
 leads c = rw (c .before .lower .given .1) at (c .before .before .before .follow .ensures)
 
 loop-less : tie.Need-loop-less Inv-loop μ-loop

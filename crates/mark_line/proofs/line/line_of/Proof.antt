@@ -1,7 +1,10 @@
 -- `mark_line::line::line_of` meets its contract: there is room for the largest sheet, so only the sheet is refused.
-use mathlib.Core.Path.{refl, sym, ap, _∙_}
+use mathlib.Core.Path.{sym, ap, _∙_}
+use Prim.Native.Nat.{ℕ}
 use borrow.Author.Needs.{needs}
-use Rattle.mark_line.specs.declared.line.Line.the-variants.{Accepted, Declined}
+use Rattle.terms.specs.Sheet.{accepted, declined}
+use Rattle.terms.specs.Answer.{answered}
+use Rattle.marking.specs.Marking.{answerOfMark}
 use Rattle.mark_line.proofs.Lined.{lined, form-marked}
 use Rattle.mark_line.proofs.line.line_of.Statement.{statement}
 use Rattle.mark_line.proofs.line.line_of.Tie as tie
@@ -36,7 +39,7 @@ size-of-requires c κs =
     let told = c .before .before in
     let form = told .before .before .before in
     let call = marked form in
-    form-marked (begin call .args .sheet .now) _ (sym (call .mark-sheet .ensures .0) ∙ told .mask .given .1) refl _ _ (form .form2 .given) (call .mark-sheet .ensures .1)
+    form-marked (begin call .args .sheet .now) (sym (call .mark-sheet .ensures .0)) (ap answerOfMark (told .mask .given .1)) _ _ (form .form2 .given) (call .mark-sheet .ensures .1)
 
 enum-known-mask-2 : tie.Need-enum-known-mask-2
 enum-known-mask-2 c = search needs
@@ -49,27 +52,27 @@ size-of-requires-2 c κs =
     let told = c .before .before in
     let form = told .before .before .before in
     let call = marked form in
-    form-marked (begin call .args .sheet .now) _ (sym (call .mark-sheet .ensures .0) ∙ told .mask2 .given .1) refl _ _ (form .form2 .given) (call .mark-sheet .ensures .1)
+    form-marked (begin call .args .sheet .now) (sym (call .mark-sheet .ensures .0)) (ap answerOfMark (told .mask2 .given .1)) _ _ (form .form2 .given) (call .mark-sheet .ensures .1)
 
 returns : tie.Need-returns
 returns c =
     let told = c .before in
     let call = marked (told .before .before .before) in
-    lined (begin call .args .sheet .now) _ (sym (call .mark-sheet .ensures .0) ∙ told .n .given .1)
+    lined (begin call .args .sheet .now) (sym (call .mark-sheet .ensures .0) ∙ ap answerOfMark (told .n .given .1))
 
 returns-2 : tie.Need-returns-2
 returns-2 c =
     let told = c .before .before .before in
     let call = marked (told .before .before .before) in
-    ap (Accepted (told .mask .given .0 .0)) (c .size-of .ensures)
-    ∙ lined (begin call .args .sheet .now) _ (sym (call .mark-sheet .ensures .0) ∙ told .mask .given .1)
+    ap (λ (size : ℕ). answered (accepted, told .mask .given .0 .0, size)) (c .size-of .ensures)
+    ∙ lined (begin call .args .sheet .now) (sym (call .mark-sheet .ensures .0) ∙ ap answerOfMark (told .mask .given .1))
 
 returns-3 : tie.Need-returns-3
 returns-3 c =
     let told = c .before .before .before in
     let call = marked (told .before .before .before) in
-    ap (Declined (told .mask2 .given .0 .0)) (c .size-of2 .ensures)
-    ∙ lined (begin call .args .sheet .now) _ (sym (call .mark-sheet .ensures .0) ∙ told .mask2 .given .1)
+    ap (λ (size : ℕ). answered (declined, told .mask2 .given .0 .0, size)) (c .size-of2 .ensures)
+    ∙ lined (begin call .args .sheet .now) (sym (call .mark-sheet .ensures .0) ∙ ap answerOfMark (told .mask2 .given .1))
 
 pub line-of-spec : {M : Type 1} → statement M
 line-of-spec =

@@ -1,11 +1,13 @@
 -- `mark_line::line::size_of` meets its contract.
-use mathlib.Core.Path.{sym, ap}
-use Prim.Native.Nat.{ℕ}
+use mathlib.Core.Path.{sym, ap, _∙_}
+use Prim.Native.Nat.{ℕ, _*_}
 use native.Mathlib.Omega.{arith}
 use lib.ListN.{length-replicate}
 use lib.Seq.{length-take-le}
 use borrow.Author.Needs.{needs}
-use Rattle.terms.specs.FormBytes.{ruleOffset}
+use Rattle.sizing.specs.Size.{answerOfSize}
+use Rattle.terms.specs.FormBytes.{formLength, mostFormRules}
+use Rattle.terms.specs.Calls.{countsPerRule}
 use Rattle.mark_line.proofs.Sized.{parts, size-is}
 use Rattle.mark_line.proofs.line.size_of.Statement.{statement}
 use Rattle.mark_line.proofs.line.size_of.Tie as tie
@@ -16,26 +18,24 @@ word-requires c κs = omega (arith, parts _ _ (c .before .before .pre) .long)
 rule-count-requires : tie.Need-rule-count-requires
 rule-count-requires c κs = parts _ _ (c .before .before .before .pre) .head
 
-mul-end : tie.Need-mul-end
-mul-end c = search needs
-
-add-end : tie.Need-add-end
-add-end c = search needs
+form-length-requires : tie.Need-form-length-requires
+form-length-requires c κs = search needs
 
 sub-size : tie.Need-sub-size
-sub-size c = omega (arith, parts _ _ (c .before .before .before .before .pre) .first, c .before .word .ensures .0)
+sub-size c = omega (arith, parts _ _ (c .before .before .before .before .before .pre) .first, c .before .before .word .ensures .0)
 
 part-size-start : tie.Need-part-size-start
-part-size-start c = omega (arith, parts _ _ (c .before .before .before .before .pre) .first, c .before .word .ensures .0)
+part-size-start c = omega (arith, parts _ _ (c .before .before .before .before .before .pre) .first, c .before .before .word .ensures .0)
 
 part-size-end : tie.Need-part-size-end
-part-size-end c = omega (arith, parts _ _ (c .before .before .before .before .pre) .last, c .before .word .ensures .0)
+part-size-end c = omega (arith, parts _ _ (c .before .before .before .before .before .pre) .last, c .before .before .word .ensures .0)
 
 slice-aggregate-size : tie.Need-slice-aggregate-size
 slice-aggregate-size c =
-    let counted = c .before .before in
+    let asked = c .before .before in
+    let counted = asked .before in
     let start = counted .before .before .before .before in
-    sym (length-take-le _ (start .args .form .now) (omega (arith, parts _ _ (start .pre) .end, counted .rule-count .ensures .0)))
+    sym (length-take-le _ (start .args .form .now) (rw (asked .form-length .ensures, counted .rule-count .ensures .0) (parts _ _ (start .pre) .end)))
 
 slice-aggregate-size-2 : tie.Need-slice-aggregate-size-2
 slice-aggregate-size-2 c = search needs
@@ -55,26 +55,29 @@ enum-told-2 c = search needs
 returns : tie.Need-returns
 returns c =
     let call = c .before .before .before in
-    let counted = call .before .before .before .before in
+    let asked = call .before .before .before .before in
+    let counted = asked .before in
     let read = counted .before in
     let start = read .before .before .before in
-    size-is (start .args .sheet .now) (start .args .form .now) (parts _ _ (start .pre)) _ _ _ _ (read .word .ensures .0) (ap ruleOffset (counted .rule-count .ensures .0)) (length-replicate {A = ℕ} 4096 0) (call .size .ensures .0) (c .enum-told .given .1)
+    size-is (start .args .sheet .now) (start .args .form .now) (parts _ _ (start .pre)) _ _ _ _ (read .word .ensures .0) (asked .form-length .ensures ∙ ap formLength (counted .rule-count .ensures .0)) (length-replicate {A = ℕ} (countsPerRule * mostFormRules) 0) (call .size .ensures .0) (ap answerOfSize (c .enum-told .given .1))
 
 returns-2 : tie.Need-returns-2
 returns-2 c =
     let call = c .before .before .before .before in
-    let counted = call .before .before .before .before in
+    let asked = call .before .before .before .before in
+    let counted = asked .before in
     let read = counted .before in
     let start = read .before .before .before in
-    size-is (start .args .sheet .now) (start .args .form .now) (parts _ _ (start .pre)) _ _ _ _ (read .word .ensures .0) (ap ruleOffset (counted .rule-count .ensures .0)) (length-replicate {A = ℕ} 4096 0) (call .size .ensures .0) (c .before .nodes .given .1)
+    size-is (start .args .sheet .now) (start .args .form .now) (parts _ _ (start .pre)) _ _ _ _ (read .word .ensures .0) (asked .form-length .ensures ∙ ap formLength (counted .rule-count .ensures .0)) (length-replicate {A = ℕ} (countsPerRule * mostFormRules) 0) (call .size .ensures .0) (ap answerOfSize (c .before .nodes .given .1))
 
 returns-3 : tie.Need-returns-3
 returns-3 c =
     let call = c .before .before .before in
-    let counted = call .before .before .before .before in
+    let asked = call .before .before .before .before in
+    let counted = asked .before in
     let read = counted .before in
     let start = read .before .before .before in
-    size-is (start .args .sheet .now) (start .args .form .now) (parts _ _ (start .pre)) _ _ _ _ (read .word .ensures .0) (ap ruleOffset (counted .rule-count .ensures .0)) (length-replicate {A = ℕ} 4096 0) (call .size .ensures .0) (c .enum-told2 .given .1)
+    size-is (start .args .sheet .now) (start .args .form .now) (parts _ _ (start .pre)) _ _ _ _ (read .word .ensures .0) (asked .form-length .ensures ∙ ap formLength (counted .rule-count .ensures .0)) (length-replicate {A = ℕ} (countsPerRule * mostFormRules) 0) (call .size .ensures .0) (ap answerOfSize (c .enum-told2 .given .1))
 
 pub size-of-spec : {M : Type 1} → statement M
 size-of-spec =
@@ -82,8 +85,7 @@ size-of-spec =
     (tie.spec
     word-requires
     rule-count-requires
-    mul-end
-    add-end
+    form-length-requires
     sub-size
     part-size-start
     part-size-end

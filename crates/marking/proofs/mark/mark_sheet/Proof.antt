@@ -1,8 +1,10 @@
 -- `marking::mark::mark_sheet` meets its contract: the tests are those of the refusal, in its order.
-use mathlib.Core.Path.{sym, _∙_}
+use mathlib.Core.Path.{sym, ap, _∙_}
 use native.Mathlib.Omega.{arith}
 use borrow.Author.Needs.{needs}
-use Rattle.making.proofs.SheetRead.{sheet-refused, sheet-read, few-nodes}
+use Rattle.sheets.specs.Sheet.{answerOfReading}
+use denote.Ref.{now}
+use Rattle.making.proofs.SheetRead.{sheet-refused, SheetRead, sheet-read}
 use Rattle.marking.proofs.Marked.{refuses, marks, not-made, form-short, numbers-short, none-short}
 use Rattle.marking.proofs.mark.mark_sheet.Statement.{statement}
 use Rattle.marking.proofs.mark.mark_sheet.Tie as tie
@@ -16,47 +18,39 @@ enum-known-n c = search needs
 enum-known-layout : tie.Need-enum-known-layout
 enum-known-layout c = search needs
 
-mul-asked : tie.Need-mul-asked
-mul-asked c =
-    let layout = c .before .before in
-    let read = sheet-read _ _ (sym (layout .before .before .read-sheet .ensures) ∙ layout .layout .given .1) in
-    omega (arith, few-nodes read)
+-- the sheet that was read
+known : (c : tie.After-layout) → SheetRead (now (c .before .before .before .before .before .before .args .sheet)) (c .layout .given .0 .0)
+known c = sheet-read _ _ (sym (c .before .before .read-sheet .ensures) ∙ ap answerOfReading (c .layout .given .1))
 
 mul-if1 : tie.Need-mul-if1
-mul-if1 c =
-    let layout = c .before .before in
-    let read = sheet-read _ _ (sym (layout .before .before .read-sheet .ensures) ∙ layout .layout .given .1) in
-    omega (arith, few-nodes read)
+mul-if1 c = omega (arith, known (c .before .before) .small)
 
 add-if1 : tie.Need-add-if1
-add-if1 c =
-    let layout = c .before .before in
-    let read = sheet-read _ _ (sym (layout .before .before .read-sheet .ensures) ∙ layout .layout .given .1) in
-    omega (arith, few-nodes read)
+add-if1 c = omega (arith, known (c .before .before) .small)
 
 returns : tie.Need-returns
-returns c =
-    let layout = c .before .before .before in
-    let read = sheet-read _ _ (sym (layout .before .before .read-sheet .ensures) ∙ layout .layout .given .1) in
-    refuses _ _ _ _ _ (form-short read _ _ (c .if1 .taken)) (λ e. omega arith)
+returns c = refuses _ _ _ _ (form-short (known (c .before .before .before)) _ _ (c .if1 .taken)) (λ e. omega arith)
+
+abbrev read-before : tie.Else1 → tie.After-layout
+read-before c = c .before .before .before
 
 returns-2 : tie.Need-returns-2
 returns-2 c =
-    let layout = c .before .before .before .before in
-    let read = sheet-read _ _ (sym (layout .before .before .read-sheet .ensures) ∙ layout .layout .given .1) in
-    refuses _ _ _ _ _ (numbers-short read _ _ (c .before .if1 .left) (c .if2 .taken)) (λ e. omega arith)
+    let test = c .before .before in
+    refuses _ _ _ _ (numbers-short (known (read-before test)) _ _ (test .if1 .left) (c .if2 .taken)) (λ e. omega arith)
 
 mark-read-requires : tie.Need-mark-read-requires
 mark-read-requires c κs =
     let numbers = c .before .before in
-    let layout = numbers .before .before .before .before in
-    (record { read = sym (layout .before .before .read-sheet .ensures) ∙ layout .layout .given .1; fits = numbers .before .if1 .left }, numbers .if2 .left)
+    let test = numbers .before .before in
+    let layout = read-before test in
+    (record { read = sym (layout .before .before .read-sheet .ensures) ∙ ap answerOfReading (layout .layout .given .1); fits = test .if1 .left }, numbers .if2 .left)
 
 returns-3 : tie.Need-returns-3
 returns-3 c =
     let n = c .before in
-    let refused = sheet-refused _ _ _ (sym (n .before .before .read-sheet .ensures) ∙ n .n .given .1) in
-    refuses _ _ _ _ _ (not-made _ _ _ (refused .0) (λ e. omega (arith, refused .1))) (λ e. omega (arith, refused .1))
+    let refused = sheet-refused _ _ _ (sym (n .before .before .read-sheet .ensures) ∙ ap answerOfReading (n .n .given .1)) in
+    refuses _ _ _ _ (not-made _ _ _ (refused .0) (λ e. omega (arith, refused .1))) (λ e. omega (arith, refused .1))
 
 same-length : tie.Need-same-length
 same-length c = search needs
@@ -68,9 +62,8 @@ returns-4 : tie.Need-returns-4
 returns-4 c =
     let call = c .before .before .before .before in
     let numbers = call .before .before .before in
-    let layout = numbers .before .before .before .before in
-    let read = sheet-read _ _ (sym (layout .before .before .read-sheet .ensures) ∙ layout .layout .given .1) in
-    marks _ _ _ _ _ (none-short read _ _ (numbers .before .if1 .left) (numbers .if2 .left)) (call .mark-read .ensures .0) (call .mark-read .ensures .1)
+    let test = numbers .before .before in
+    marks _ _ _ _ (none-short (known (read-before test)) _ _ (test .if1 .left) (numbers .if2 .left)) (call .mark-read .ensures .0) (call .mark-read .ensures .1)
 
 pub mark-sheet-spec : {M : Type 1} → statement M
 mark-sheet-spec =
@@ -79,7 +72,6 @@ mark-sheet-spec =
     read-sheet-requires
     enum-known-n
     enum-known-layout
-    mul-asked
     mul-if1
     add-if1
     returns

@@ -12,17 +12,23 @@ use Rattle.plain_walk.proofs.Outcome.{refuses, reads}
 use Rattle.plain_walk.proofs.walk.walk.Statement.{statement}
 use Rattle.plain_walk.proofs.walk.walk.Tie as tie
 
+-- The alphabet, the automaton and the tree are t1, t2 and t3: their slices are lent on by reference.
+
 -- the checks refuse nothing
 none-refused : (c : tie.Else1) →
     let a = c .before .before .before .before .before .before .args in
-    walkRefusal (now (a .alphabet)) (now (a .automaton)) (now (a .tree)) (length (now (a .masks))) ≡ 0
+    walkRefusal (now (a .t1)) (now (a .t2)) (now (a .t3)) (length (now (a .masks))) ≡ 0
 none-refused c = sym (c .before .walk-refusal .ensures) ∙ c .if1 .left
 
 -- what they say of the arguments
 checked : (c : tie.Else1) →
     let a = c .before .before .before .before .before .before .args in
-    WalkPassed (now (a .alphabet)) (now (a .automaton)) (now (a .tree)) (length (now (a .masks)))
+    WalkPassed (now (a .t1)) (now (a .t2)) (now (a .t3)) (length (now (a .masks)))
 checked c = walk-passed _ _ _ _ (none-refused c)
+
+-- where the transitions were linked, from where the tree is read
+abbrev linked : tie.After-read-node-arg → tie.After-link-transitions
+linked c = c .before .before .before .before .before
 
 walk-refusal-requires : tie.Need-walk-refusal-requires
 walk-refusal-requires c κs = search needs
@@ -37,14 +43,13 @@ link-transitions-requires c κs =
 
 read-node-requires : tie.Need-read-node-requires
 read-node-requires c κs =
-    let linked = c .before .before in
-    let passes = linked .before in
-    (record { passes = none-refused passes; linked = linked .link-transitions .ensures }, some-node _ _ (checked passes .treePasses))
+    let passes = linked c .before in
+    (record { passes = none-refused passes; linked = linked c .link-transitions .ensures }, some-node _ _ (checked passes .treePasses))
 
-slice-read-t14 : tie.Need-slice-read-t14
-slice-read-t14 c =
+slice-read-t23 : tie.Need-slice-read-t23
+slice-read-t23 c =
     let read = c .before .before .before in
-    let p = checked (read .before .before .before .before) in
+    let p = checked (linked (read .before) .before) in
     omega (arith, read .read-node .kept .1 .1 .1 .1 .1 .0, p .fits, some-node _ _ (p .treePasses))
 
 same-length : tie.Need-same-length
@@ -53,11 +58,11 @@ same-length c = search needs
 returns-2 : tie.Need-returns-2
 returns-2 c =
     let read = c .before .before .before in
-    let passes = read .before .before .before .before in
+    let passes = linked (read .before) .before in
     let (end, noted) = read .read-node .ensures in
     reads _ _ _ _ (passes .before .walk-refusal .ensures) (passes .if1 .left) (read .read-node .kept .1 .1 .1 .1 .1 .0) end noted
 
 pub walk-spec : {M : Type 1} → statement M
 walk-spec =
     tie.close
-    (tie.spec walk-refusal-requires returns link-transitions-requires read-node-requires slice-read-t14 same-length returns-2)
+    (tie.spec walk-refusal-requires returns link-transitions-requires read-node-requires slice-read-t23 same-length returns-2)

@@ -1,10 +1,12 @@
 -- `restoring::restore::make_wrapped` meets its contract.
-use mathlib.Core.Path.{sym, subst}
+use mathlib.Core.Path.{sym, ap, subst}
 use lib.ListN.{length}
 use lib.Seq.{length-take-le}
 use borrow.Author.Needs.{needs}
-use Rattle.wrapping.specs.declared.wrap.Wrapping.{Wrapping}
-use Rattle.restoring.specs.Private.Within.{SheetWithin}
+use Rattle.terms.specs.Answer.{answerOfLength}
+use Rattle.terms.specs.Private.Within.{Within}
+use Rattle.terms.specs.declared.answers.LengthAnswer.{LengthAnswer}
+use Rattle.making.proofs.Formed.{makes}
 use Rattle.restoring.proofs.Handed.{none-made, sheet-made}
 use Rattle.restoring.proofs.restore.make_wrapped.Statement.{statement}
 use Rattle.restoring.proofs.restore.make_wrapped.Tie as tie
@@ -19,7 +21,7 @@ slice-aggregate-make-form : tie.Need-slice-aggregate-make-form
 slice-aggregate-make-form c =
     let told = c .before .before in
     let start = told .before .before .before .before in
-    sym (length-take-le _ (start .args .sheet .now) (subst (λ (w : Wrapping). SheetWithin w (length (start .args .sheet .now))) (told .wrapped2 .given .1) (start .pre)))
+    sym (length-take-le _ (start .args .sheet .now) (subst (λ (w : LengthAnswer). Within (answerOfLength w) (length (start .args .sheet .now))) (told .wrapped2 .given .1) (start .pre)))
 
 make-form-requires : tie.Need-make-form-requires
 make-form-requires c κs = search needs
@@ -28,7 +30,7 @@ returns : tie.Need-returns
 returns c =
     let told = c .before in
     let given = told .before .before .before .before .args in
-    none-made (given .sheet .now) (told .wrapped .given .1) (given .form .now)
+    none-made (given .sheet .now) (ap answerOfLength (told .wrapped .given .1)) (given .form .now)
 
 same-length : tie.Need-same-length
 same-length c = search needs
@@ -38,7 +40,7 @@ returns-2 c =
     let call = c .before .before in
     let told = call .before .before .before .before in
     let given = told .before .before .before .before .args in
-    sheet-made (given .sheet .now) (told .wrapped2 .given .1) _ _ (given .form .now) (call .make-form .ensures .0) (call .make-form .ensures .1)
+    sheet-made (given .sheet .now) (ap answerOfLength (told .wrapped2 .given .1)) _ _ (given .form .now) (makes _ (given .form .now) (call .make-form .ensures))
 
 pub make-wrapped-spec : {M : Type 1} → statement M
 make-wrapped-spec =

@@ -1,6 +1,11 @@
 -- `restoring::restore::restore` meets its contract: the calls' own contracts, side by side, from which the claim follows.
+use lib.ListN.{length}
 use borrow.Author.Needs.{needs}
-use Rattle.restoring.proofs.Handed.{sheet-within, form-within}
+use Rattle.terms.specs.Answer.{answerOfLength}
+use Rattle.terms.specs.Sheet.{wrapped}
+use Rattle.terms.specs.Calls.{wrapRefusal}
+use Rattle.terms.proofs.Answer.{lies-within}
+use Rattle.restoring.proofs.Handed.{form-within}
 use Rattle.restoring.proofs.Restored.{calls-restore}
 use Rattle.restoring.specs.Restore.{RestoringCalls}
 use Rattle.restoring.proofs.restore.restore.Statement.{statement}
@@ -13,13 +18,13 @@ make-wrapped-requires : tie.Need-make-wrapped-requires
 make-wrapped-requires c κs =
     let call = c .before .before .before .before in
     let given = call .before .before .before .before .before .before .before .before .before .args in
-    sheet-within (given .alphabet .now) (given .tree .now) (given .automaton .now) (given .sheet .now) (call .wrap .ensures .0) (call .wrap .ensures .1)
+    lies-within (wrapRefusal (given .alphabet .now) (given .tree .now) (given .automaton .now) (length (given .sheet .now))) (wrapped (given .alphabet .now) (given .tree .now) (given .automaton .now)) (given .sheet .now) (call .wrap .ensures .0) (call .wrap .ensures .1)
 
 unfold-made-requires : tie.Need-unfold-made-requires
 unfold-made-requires c κs =
     let call = c .before .before .before .before .before in
     let given = call .before .before .before .before .before .before .before .before .before .before .before .before .before .before .args in
-    form-within (call .before .before .before .before .before .wrap .result) (call .make-wrapped .result) _ _ (given .form .now) (call .make-wrapped .ensures) (c .before .before .before .before .form .given)
+    form-within (answerOfLength (call .before .before .before .before .before .wrap .result)) (answerOfLength (call .make-wrapped .result)) _ _ (given .form .now) (call .make-wrapped .ensures) (c .before .before .before .before .form .given)
 
 same-length : tie.Need-same-length
 same-length c = search needs

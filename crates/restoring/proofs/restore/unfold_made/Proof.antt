@@ -1,10 +1,11 @@
 -- `restoring::restore::unfold_made` meets its contract.
-use mathlib.Core.Path.{sym, subst}
+use mathlib.Core.Path.{sym, ap, subst}
 use lib.ListN.{length}
 use lib.Seq.{length-take-le}
 use borrow.Author.Needs.{needs}
-use Rattle.making.specs.declared.Making.{Making}
-use Rattle.restoring.specs.Private.Within.{FormWithin}
+use Rattle.terms.specs.Answer.{answerOfLength}
+use Rattle.terms.specs.Private.Within.{Within}
+use Rattle.terms.specs.declared.answers.LengthAnswer.{LengthAnswer}
 use Rattle.restoring.proofs.Handed.{none-unfolded, form-unfolded}
 use Rattle.restoring.proofs.restore.unfold_made.Statement.{statement}
 use Rattle.restoring.proofs.restore.unfold_made.Tie as tie
@@ -19,7 +20,7 @@ slice-aggregate-unfold : tie.Need-slice-aggregate-unfold
 slice-aggregate-unfold c =
     let told = c .before .before in
     let start = told .before .before .before .before .before .before in
-    sym (length-take-le _ (start .args .form .now) (subst (λ (m : Making). FormWithin m (length (start .args .form .now))) (told .made2 .given .1) (start .pre)))
+    sym (length-take-le _ (start .args .form .now) (subst (λ (m : LengthAnswer). Within (answerOfLength m) (length (start .args .form .now))) (told .made2 .given .1) (start .pre)))
 
 unfold-requires : tie.Need-unfold-requires
 unfold-requires c κs = search needs
@@ -28,7 +29,7 @@ returns : tie.Need-returns
 returns c =
     let told = c .before in
     let given = told .before .before .before .before .before .before .args in
-    none-unfolded (given .alphabet .now) (given .form .now) (told .made .given .1) (given .counts .now) (given .tree .now)
+    none-unfolded (given .alphabet .now) (given .form .now) (ap answerOfLength (told .made .given .1)) (given .counts .now) (given .tree .now)
 
 same-length : tie.Need-same-length
 same-length c = search needs
@@ -41,7 +42,7 @@ returns-2 c =
     let call = c .before .before .before .before in
     let told = call .before .before .before .before .before in
     let given = told .before .before .before .before .before .before .args in
-    form-unfolded (given .alphabet .now) (given .form .now) (told .made2 .given .1) (record { answered = call .«unfold» .ensures .0; counted = call .«unfold» .ensures .1 .1; written = call .«unfold» .ensures .1 .0 })
+    form-unfolded (given .alphabet .now) (given .form .now) (ap answerOfLength (told .made2 .given .1)) (record { answered = call .«unfold» .ensures .0; counted = call .«unfold» .ensures .1 .1; written = call .«unfold» .ensures .1 .0 })
 
 pub unfold-made-spec : {M : Type 1} → statement M
 unfold-made-spec =

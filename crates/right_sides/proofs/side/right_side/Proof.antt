@@ -10,11 +10,11 @@ use Rattle.right_sides.proofs.side.right_side.Statement.{statement}
 use Rattle.right_sides.proofs.side.right_side.Tie as tie
 
 abbrev Inv-loop : tie.InvT-loop
-Inv-loop form₀ cells₀ alphabet ranks roots nodes stack₀ low₀ next₀ left₀ form cells stack low next left =
-    (g : RightSide form₀ cells₀ next₀ alphabet ranks roots nodes) → Scanning g left low form cells next stack
+Inv-loop table₀ cells₀ alphabet ranks roots nodes stack₀ low₀ next₀ left₀ table cells stack low next left =
+    (g : RightSide table₀ cells₀ next₀ alphabet ranks roots nodes) → Scanning g left low table cells next stack
 
 abbrev μ-loop : tie.MeasureT-loop
-μ-loop form₀ cells₀ alphabet ranks roots nodes stack₀ low₀ next₀ left₀ form cells stack low next left = left
+μ-loop table₀ cells₀ alphabet ranks roots nodes stack₀ low₀ next₀ left₀ table cells stack low next left = left
 
 loop-holds : tie.Need-loop-holds Inv-loop μ-loop
 loop-holds c = λ g. scan-none g _ _ _ refl refl refl

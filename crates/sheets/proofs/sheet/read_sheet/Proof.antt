@@ -11,7 +11,8 @@ use denote.Ref.{now}
 use lib.ListN.{length}
 use Rattle.terms.specs.Refusal.{outside}
 use Rattle.terms.specs.Check.{joins}
-use Rattle.sheets.proofs.Answer.{wrong-length, not-joined, bodies-refused, sheet-read}
+use Rattle.sheets.proofs.Answer.{wrong-length, not-joined, bodies-refused, BodiesRead, bodies-read, sheet-read}
+use Rattle.sheets.proofs.Asked.{asked-small}
 use Rattle.sheets.proofs.sheet.read_sheet.Statement.{statement}
 use Rattle.sheets.proofs.sheet.read_sheet.Tie as tie
 
@@ -47,6 +48,16 @@ enum-known-counts c = search needs
 word-requires : tie.Need-word-requires
 word-requires c κs = search needs
 
+-- where the bodies are read, nothing is refused of the sheet
+known : (c : tie.After-counts) → let test = c .before .before .before in
+    BodiesRead (sheet test) (fits (test .before)) (joined test) (c .counts .given .0 .0)
+known c =
+    let read = c .before .before in
+    bodies-read _ (fits (read .before .before)) (joined (read .before)) _ (sym (c .counts .given .1) ∙ read .read-joined .ensures)
+
+mul-t13 : tie.Need-mul-t13
+mul-t13 c = let read = known (c .before .before .before) in omega (arith, read .asked, asked-small _ (read .passes))
+
 word-requires-2 : tie.Need-word-requires-2
 word-requires-2 c κs = search needs
 
@@ -57,11 +68,11 @@ returns-3 c =
 
 returns-4 : tie.Need-returns-4
 returns-4 c =
-    let counts = c .before .before .before in
-    let read = counts .before .before in
-    sheet-read _ (fits (read .before .before)) (joined (read .before)) _ _ _ (sym (counts .counts .given .1) ∙ read .read-joined .ensures) (c .before .word .ensures .0) (c .word2 .ensures .0)
+    let counts = c .before .before .before .before in
+    let test = counts .before .before .before in
+    sheet-read _ (fits (test .before)) (joined test) _ _ _ (known counts) (c .before .before .word .ensures .0) (c .word2 .ensures .0)
 
 pub read-sheet-spec : {M : Type 1} → statement M
 read-sheet-spec =
     tie.close
-    (tie.spec returns contents-join-requires returns-2 read-joined-requires enum-known-n enum-known-counts word-requires word-requires-2 returns-3 returns-4)
+    (tie.spec returns contents-join-requires returns-2 read-joined-requires enum-known-n enum-known-counts word-requires mul-t13 word-requires-2 returns-3 returns-4)

@@ -13,7 +13,7 @@ is-full-requires c κs = search needs
 returns : tie.Need-returns
 returns c =
     let full = sym (c .before .is-full .ensures) ∙ c .if1 .taken in
-    let (answer, slices) = refuses _ _ _ _ _ (sym (refused-full _ _ _ _ full)) (λ e. omega arith) in
+    let (answer, slices) = refuses _ _ _ _ (sym (refused-full _ _ _ _ full)) (λ e. omega arith) in
     (answer, (refl, slices))
 
 mark-sheet-requires : tie.Need-mark-sheet-requires
@@ -35,7 +35,7 @@ returns-2 c =
     let call = c .before .before .before .before .before in
     let free = call .before .before .before in
     let same = not-full _ _ _ _ (sym (free .before .is-full .ensures) ∙ free .if1 .left) in
-    let (answer, slices) = marks _ _ _ _ _ same (call .mark-sheet .ensures .0) (call .mark-sheet .ensures .1) in
+    let (answer, slices) = marks _ _ _ _ same (call .mark-sheet .ensures .0) (call .mark-sheet .ensures .1) in
     (answer, (c .count .ensures, slices))
 
 pub mark-spec : {M : Type 1} → statement M

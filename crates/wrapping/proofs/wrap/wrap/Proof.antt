@@ -1,21 +1,10 @@
 -- `wrapping::wrap::wrap` meets its contract: a refusal is answered by its number and leaves the slice as it was; else the sheet is written.
-use mathlib.Core.Path.{_≡_, sym, ap, _∙_}
-use Prim.Native.Nat.{ℕ, zero, suc}
-use native.Mathlib.Omega.{arith}
+use mathlib.Core.Path.{sym, _∙_}
 use borrow.Author.Needs.{needs}
+use Rattle.terms.proofs.Answer.{is-refused, is-answered}
 use Rattle.terms.proofs.Lent.{lent-kept, lent-written}
-use Rattle.wrapping.specs.Wrap.{wrappingAfter}
-use Rattle.wrapping.specs.declared.wrap.Wrapping.the-variants.{Refused, Written}
 use Rattle.wrapping.proofs.wrap.wrap.Statement.{statement}
 use Rattle.wrapping.proofs.wrap.wrap.Tie as tie
-
-answer-refused : {r n : ℕ} (k : ℕ) → r ≡ n → (r ≡ 0 → ⊥) → Refused r ≡ wrappingAfter n k
-answer-refused {n = zero} k e h = absurd (h e)
-answer-refused {n = suc n} k e h = ap Refused e
-
-answer-written : {r n k m : ℕ} → r ≡ n → r ≡ 0 → k ≡ m → Written k ≡ wrappingAfter n m
-answer-written {n = zero} e z h = ap Written h
-answer-written {n = suc n} e z h = absurd (omega arith)
 
 wrap-refusal-requires : tie.Need-wrap-refusal-requires
 wrap-refusal-requires c κs = search needs
@@ -23,7 +12,7 @@ wrap-refusal-requires c κs = search needs
 returns : tie.Need-returns
 returns c =
     let e = c .before .wrap-refusal .ensures in
-    (answer-refused _ e (c .if1 .taken), lent-kept _ _ e (c .if1 .taken))
+    (is-refused _ e (c .if1 .taken), lent-kept _ _ e (c .if1 .taken))
 
 wrap-into-requires : tie.Need-wrap-into-requires
 wrap-into-requires c κs = sym (c .before .before .wrap-refusal .ensures) ∙ c .before .if1 .left
@@ -36,7 +25,7 @@ returns-2 c =
     let put = c .before .before .wrap-into .ensures in
     let checked = c .before .before .before .before in
     let e = checked .before .wrap-refusal .ensures in
-    (answer-written e (checked .if1 .left) (put .answer), lent-written _ _ e (checked .if1 .left) (put .slice))
+    (is-answered e (checked .if1 .left) (put .answer), lent-written _ _ e (checked .if1 .left) (put .slice))
 
 pub wrap-spec : {M : Type 1} → statement M
 wrap-spec = tie.close (tie.spec wrap-refusal-requires returns wrap-into-requires same-length returns-2)

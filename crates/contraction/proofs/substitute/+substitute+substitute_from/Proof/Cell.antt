@@ -1,84 +1,95 @@
--- `inst` meets its contract: the kind of the cell decides, as in the model.
+-- `substitute` meets its contract: what the cell is decides, as in the model.
 use mathlib.Core.Path.{_≡_, sym, _∙_}
 use Prim.Native.Nat.{ℕ, _<_}
 use native.Mathlib.Omega.{arith}
 use borrow.Author.Needs.{needs}
 use lib.ListN.{length}
-use Rattle.cells.specs.Cells.{field}
+use Rattle.cells.specs.Cells.{field, cellAt}
+use Rattle.cells.specs.declared.cells.Cell.{Cell}
+use Rattle.cells.proofs.Reading.{is-parameter, is-closed, is-over, is-terminal}
 use Rattle.contraction.proofs.Substituting.{argument-there, parameter-instanced, rule-instanced, over, over-room, under-instanced}
-use Rattle.contraction.proofs.Children.{Branches, branch-room, branch-children, branch-instanced}
+use Rattle.contraction.proofs.Children.{Branches, number-is, branch-room, branch-children, branch-instanced}
 use Rattle.contraction.proofs.Children as children
 use Rattle.contraction.proofs.substitute.substitute.Reads as substitute
 use Rattle.contraction.proofs.substitute.+substitute+substitute_from.Lts-substitute as substitute-lts
 use Rattle.contraction.proofs.substitute.+substitute+substitute_from.Proof.Measure.{substitute-at, substitute-calls}
 
 module _ (t : ℕ) where
-  abbrev begin : substitute-lts.After-field (substitute-calls t) (substitute-at t) substitute.Post → substitute-lts.Start (substitute-calls t) (substitute-at t) substitute.Post
-  begin c = c .before .before .before .before
+  -- where the call begins, from where the cell is read
+  abbrev start : substitute-lts.After-read-cell (substitute-calls t) (substitute-at t) substitute.Post → substitute-lts.Start (substitute-calls t) (substitute-at t) substitute.Post
+  start c = c .before .before .before .before
 
-  -- where the call begins, from where kind and number of the cell are read
-  abbrev start : substitute-lts.After-field2 (substitute-calls t) (substitute-at t) substitute.Post → substitute-lts.Start (substitute-calls t) (substitute-at t) substitute.Post
-  start c = begin (c .before .before)
-
-  pub substitute-field-requires : substitute-lts.Need-field-requires (substitute-calls t) (substitute-at t) substitute.Post
-  substitute-field-requires c κs =
+  pub substitute-read-cell-requires : substitute-lts.Need-read-cell-requires (substitute-calls t) (substitute-at t) substitute.Post
+  substitute-read-cell-requires c κs =
       let i = c .before .before .before .pre .1 in
-      (i .room .all, omega (arith, i .lower, i .room .left), omega arith)
+      (i .room .all, omega (arith, i .lower, i .room .left))
 
-  pub substitute-field-requires-2 : substitute-lts.Need-field-requires-2 (substitute-calls t) (substitute-at t) substitute.Post
-  substitute-field-requires-2 c κs =
-      let i = begin (c .before) .pre .1 in
-      (i .room .all, omega (arith, i .lower, i .room .left), omega arith)
+  -- what was read is what the cell is
+  cell-is : (c : substitute-lts.After-read-cell (substitute-calls t) (substitute-at t) substitute.Post) {x : Cell} → c .read-cell .result ≡ x → let args = start c .args in cellAt (args .cells .now) (args .cell) ≡ x
+  cell-is c e = sym (c .read-cell .ensures) ∙ e
 
   -- a parameter
+
+  pub substitute-enum-known-j : substitute-lts.Need-enum-known-j (substitute-calls t) (substitute-at t) substitute.Post
+  substitute-enum-known-j c = search needs
+
+  parameter : (c : substitute-lts.After-j (substitute-calls t) (substitute-at t) substitute.Post) → let args = start (c .before .before) .args in
+      (field (args .cells .now) (args .cell) 0 ≡ 0) × (field (args .cells .now) (args .cell) 1 ≡ c .j .given .0 .0)
+  parameter c = let args = start (c .before .before) .args in is-parameter (args .cells .now) (args .cell) (cell-is (c .before .before) (c .j .given .1))
+
+  -- its argument is there
+  argument : (c : substitute-lts.After-j (substitute-calls t) (substitute-at t) substitute.Post) → c .j .given .0 .0 < length (start (c .before .before) .args .args .now)
+  argument c =
+      let (kind, number) = parameter c in
+      omega (arith, argument-there (start (c .before .before) .pre .1) kind, number)
 
   pub substitute-cast-made : substitute-lts.Need-cast-made (substitute-calls t) (substitute-at t) substitute.Post
   substitute-cast-made c = search needs
 
-  -- its argument is there
-  argument : (c : substitute-lts.Then1 (substitute-calls t) (substitute-at t) substitute.Post) → c .before .field2 .result < length (start (c .before) .args .args .now)
-  argument c =
-      let read = c .before in
-      omega (arith, argument-there (start read .pre .1) (sym (read .before .before .field .ensures) ∙ c .if1 .taken), read .field2 .ensures)
-
   pub substitute-mul-made : substitute-lts.Need-mul-made (substitute-calls t) (substitute-at t) substitute.Post
-  substitute-mul-made c = omega (arith, argument c, start (c .before) .good)
+  substitute-mul-made c = omega (arith, argument (c .before), start (c .before .before .before) .good)
 
   pub substitute-shared-slice-read-made : substitute-lts.Need-shared-slice-read-made (substitute-calls t) (substitute-at t) substitute.Post
-  substitute-shared-slice-read-made c = omega (arith, argument (c .before))
+  substitute-shared-slice-read-made c = omega (arith, argument (c .before .before))
 
   pub substitute-returns : substitute-lts.Need-returns (substitute-calls t) (substitute-at t) substitute.Post
   substitute-returns c =
-      let read = c .before .before in
-      parameter-instanced (start read .pre .1) _ (read .field2 .ensures) (sym (read .before .before .field .ensures) ∙ c .before .if1 .taken)
+      let told = c .before .before in
+      let (kind, number) = parameter told in
+      parameter-instanced (start (told .before .before) .pre .1) _ (sym number) kind
 
   -- a rule
+
+  pub substitute-enum-told : substitute-lts.Need-enum-told (substitute-calls t) (substitute-at t) substitute.Post
+  substitute-enum-told c = search needs
 
   pub substitute-returns-2 : substitute-lts.Need-returns-2 (substitute-calls t) (substitute-at t) substitute.Post
   substitute-returns-2 c =
       let read = c .before .before in
-      rule-instanced (start read .pre .1) (sym (read .before .before .field .ensures) ∙ c .if2 .taken)
+      let (kind, number) = is-closed (start read .args .cells .now) (start read .args .cell) (cell-is read (c .enum-told .given .1)) in
+      rule-instanced (start read .pre .1) kind
 
   -- a rule over a cell
 
-  abbrev read-under : substitute-lts.After-field-arg3 (substitute-calls t) (substitute-at t) substitute.Post → substitute-lts.After-field2 (substitute-calls t) (substitute-at t) substitute.Post
-  read-under c = c .before .before .before .before
+  pub substitute-enum-known-rule : substitute-lts.Need-enum-known-rule (substitute-calls t) (substitute-at t) substitute.Post
+  substitute-enum-known-rule c = search needs
 
-  is-under : (c : substitute-lts.After-field3 (substitute-calls t) (substitute-at t) substitute.Post) → let args = start (read-under (c .before)) .args in
-      field (args .cells .now) (args .cell) 0 ≡ 2
-  is-under c = sym (read-under (c .before) .before .before .field .ensures) ∙ c .before .before .if3 .taken
+  over-cell : (c : substitute-lts.After-rule (substitute-calls t) (substitute-at t) substitute.Post) → let args = start (c .before .before) .args in
+      (field (args .cells .now) (args .cell) 0 ≡ 2)
+      × (field (args .cells .now) (args .cell) 1 ≡ c .rule .given .0 .0 .0)
+      × (field (args .cells .now) (args .cell) 3 ≡ c .rule .given .0 .1 .0)
+  over-cell c = let args = start (c .before .before) .args in is-over (args .cells .now) (args .cell) (cell-is (c .before .before) (c .rule .given .1))
 
-  pub substitute-field-requires-3 : substitute-lts.Need-field-requires-3 (substitute-calls t) (substitute-at t) substitute.Post
-  substitute-field-requires-3 c κs =
-      let i = start (read-under c) .pre .1 in
-      (i .room .all, omega (arith, i .lower, i .room .left), omega arith)
+  abbrev told-over : substitute-lts.After-substitute-arg (substitute-calls t) (substitute-at t) substitute.Post → substitute-lts.After-rule (substitute-calls t) (substitute-at t) substitute.Post
+  told-over c = c .before .before
 
   pub substitute-substitute-requires : substitute-lts.Need-substitute-requires (substitute-calls t) (substitute-at t) substitute.Post
   substitute-substitute-requires c κs =
-      let child = c .before .before in
-      let (measure, i) = start (read-under (child .before)) .pre in
-      let o = over i (is-under child) in
-      (omega (arith, o .falls, child .field3 .ensures), rw (child .field3 .ensures) (o .instance))
+      let told = told-over (c .before) in
+      let (kind, number, child) = over-cell told in
+      let (measure, i) = start (told .before .before) .pre in
+      let o = over i kind in
+      (omega (arith, o .falls, child), rw (sym child) (o .instance))
 
   abbrev below-made : substitute-lts.After-contract-chain-arg (substitute-calls t) (substitute-at t) substitute.Post → substitute-lts.After-substitute (substitute-calls t) (substitute-at t) substitute.Post
   below-made c = c .before .before .before .before
@@ -86,8 +97,9 @@ module _ (t : ℕ) where
   pub substitute-contract-chain-requires : substitute-lts.Need-contract-chain-requires (substitute-calls t) (substitute-at t) substitute.Post
   substitute-contract-chain-requires c κs =
       let made = below-made (c .before) in
-      let child = made .before .before .before in
-      (over-room (start (read-under (child .before)) .pre .1) (is-under child) (child .field3 .ensures) (made .substitute .ensures), made .substitute .ensures .lower)
+      let told = told-over (made .before .before) in
+      let (kind, number, child) = over-cell told in
+      (over-room (start (told .before .before) .pre .1) kind (sym child) (made .substitute .ensures), made .substitute .ensures .lower)
 
   pub substitute-same-length : substitute-lts.Need-same-length (substitute-calls t) (substitute-at t) substitute.Post
   substitute-same-length c = search needs
@@ -96,52 +108,47 @@ module _ (t : ℕ) where
   substitute-returns-3 c =
       let last = c .before .before in
       let made = below-made (last .before .before) in
-      let child = made .before .before .before in
-      let read = read-under (child .before) in
-      under-instanced (start read .pre .1) (is-under child) (child .field3 .ensures) (made .substitute .ensures) _ (read .field2 .ensures) (last .contract-chain .ensures)
+      let told = told-over (made .before .before) in
+      let (kind, number, child) = over-cell told in
+      under-instanced (start (told .before .before) .pre .1) kind (sym child) (made .substitute .ensures) _ (sym number) (last .contract-chain .ensures)
 
   -- a terminal over cells
 
-  abbrev read-branch : substitute-lts.Else3 (substitute-calls t) (substitute-at t) substitute.Post → substitute-lts.After-field2 (substitute-calls t) (substitute-at t) substitute.Post
-  read-branch c = c .before .before .before
+  pub substitute-enum-known-terminal : substitute-lts.Need-enum-known-terminal (substitute-calls t) (substitute-at t) substitute.Post
+  substitute-enum-known-terminal c = search needs
 
-  is-branch : (c : substitute-lts.Else3 (substitute-calls t) (substitute-at t) substitute.Post) → let args = start (read-branch c) .args in
-      Branches (field (args .cells .now) (args .cell) 0)
-  is-branch c =
-      let e = read-branch c .before .before .field .ensures in
-      (λ z. c .before .before .if1 .left (e ∙ z), λ z. c .before .if2 .left (e ∙ z), λ z. c .if3 .left (e ∙ z))
+  record TerminalCell (c : substitute-lts.After-terminal (substitute-calls t) (substitute-at t) substitute.Post) : Type 0 where
+    pub kind : Branches (field (start (c .before .before) .args .cells .now) (start (c .before .before) .args .cell) 0)
+    pub number : c .terminal .given .0 .0 .0 ≡ field (start (c .before .before) .args .cells .now) (start (c .before .before) .args .cell) 1
+    pub count : c .terminal .given .0 .1 .0 ≡ field (start (c .before .before) .args .cells .now) (start (c .before .before) .args .cell) 2
 
-  pub substitute-field-requires-4 : substitute-lts.Need-field-requires-4 (substitute-calls t) (substitute-at t) substitute.Post
-  substitute-field-requires-4 c κs =
-      let i = start (read-branch (c .before)) .pre .1 in
-      (i .room .all, omega (arith, i .lower, i .room .left), omega arith)
+  terminal-cell : (c : substitute-lts.After-terminal (substitute-calls t) (substitute-at t) substitute.Post) → TerminalCell c
+  terminal-cell c =
+      let read = c .before .before in
+      let (high, number, count) = is-terminal (start read .args .cells .now) (start read .args .cell) (cell-is read (c .terminal .given .1)) in
+      let kind : Branches (field (start read .args .cells .now) (start read .args .cell) 0) = (λ z. omega arith, λ z. omega arith, λ z. omega arith) in
+      record { kind = kind; number = number-is (start read .pre .1) kind number; count = sym count }
 
-  abbrev branched : substitute-lts.After-substitute-from-arg2 (substitute-calls t) (substitute-at t) substitute.Post → substitute-lts.Else3 (substitute-calls t) (substitute-at t) substitute.Post
-  branched c = c .before .before .before .before
+  abbrev told-terminal : substitute-lts.After-children (substitute-calls t) (substitute-at t) substitute.Post → substitute-lts.After-terminal (substitute-calls t) (substitute-at t) substitute.Post
+  told-terminal c = c .before .before .before .before
 
   pub substitute-substitute-from-requires : substitute-lts.Need-substitute-from-requires (substitute-calls t) (substitute-at t) substitute.Post
   substitute-substitute-from-requires c κs =
-      let test = branched (c .before) in
-      let (measure, i) = start (read-branch test) .pre in
-      (omega arith, (children.over i (is-branch test) .children, search needs))
-
-  abbrev tested : substitute-lts.After-substitute-from (substitute-calls t) (substitute-at t) substitute.Post → substitute-lts.Else3 (substitute-calls t) (substitute-at t) substitute.Post
-  tested c = branched (c .before .before)
+      let told = told-terminal c in
+      let (measure, i) = start (told .before .before) .pre in
+      (omega arith, (children.over i (terminal-cell told .kind) .children, search needs))
 
   abbrev children-made : substitute-lts.After-contract-terminal-arg2 (substitute-calls t) (substitute-at t) substitute.Post → substitute-lts.After-substitute-from (substitute-calls t) (substitute-at t) substitute.Post
   children-made c = c .before .before .before .before
 
-  pub substitute-cast-t38 : substitute-lts.Need-cast-t38 (substitute-calls t) (substitute-at t) substitute.Post
-  substitute-cast-t38 c =
-      let test = tested (children-made c) in
-      let read = read-branch test in
-      omega (arith, children.over (start read .pre .1) (is-branch test) .small, read .field2 .ensures)
+  abbrev terminal-of : substitute-lts.After-substitute-from (substitute-calls t) (substitute-at t) substitute.Post → substitute-lts.After-terminal (substitute-calls t) (substitute-at t) substitute.Post
+  terminal-of c = told-terminal (c .before)
 
   pub substitute-cast-contract-terminal : substitute-lts.Need-cast-contract-terminal (substitute-calls t) (substitute-at t) substitute.Post
   substitute-cast-contract-terminal c =
-      let made = children-made c in
-      let test = tested made in
-      omega (arith, children.over (start (read-branch test) .pre .1) (is-branch test) .children .four, made .before .before .before .before .field4 .ensures)
+      let told = terminal-of (children-made c) in
+      let cell = terminal-cell told in
+      omega (arith, children.over (start (told .before .before) .pre .1) (cell .kind) .children .four, cell .count)
 
   pub substitute-slice-aggregate-contract-terminal : substitute-lts.Need-slice-aggregate-contract-terminal (substitute-calls t) (substitute-at t) substitute.Post
   substitute-slice-aggregate-contract-terminal c = sym (children-made (c .before) .substitute-from .ensures .four)
@@ -149,10 +156,11 @@ module _ (t : ℕ) where
   pub substitute-contract-terminal-requires : substitute-lts.Need-contract-terminal-requires (substitute-calls t) (substitute-at t) substitute.Post
   substitute-contract-terminal-requires c κs =
       let made = children-made (c .before) in
-      let test = tested made in
-      let i = start (read-branch test) .pre .1 in
+      let told = terminal-of made in
+      let cell = terminal-cell told in
+      let i = start (told .before .before) .pre .1 in
       let from = made .substitute-from .ensures in
-      (branch-room i (is-branch test) from, rw (made .before .before .before .before .field4 .ensures) (branch-children i (is-branch test) from))
+      (branch-room i (cell .kind) from, rw (cell .count) (branch-children i (cell .kind) from))
 
   pub substitute-same-length-2 : substitute-lts.Need-same-length-2 (substitute-calls t) (substitute-at t) substitute.Post
   substitute-same-length-2 c = search needs
@@ -161,7 +169,6 @@ module _ (t : ℕ) where
   substitute-returns-4 c =
       let last = c .before .before in
       let made = children-made (last .before .before) in
-      let test = tested made in
-      let read = read-branch test in
-      branch-instanced (start read .pre .1) (is-branch test) (made .substitute-from .ensures) _ _ (read .field2 .ensures) (made .before .before .before .before .field4 .ensures)
-      (last .contract-terminal .ensures)
+      let told = terminal-of made in
+      let cell = terminal-cell told in
+      branch-instanced (start (told .before .before) .pre .1) (cell .kind) (made .substitute-from .ensures) _ _ (cell .number) (cell .count) (last .contract-terminal .ensures)

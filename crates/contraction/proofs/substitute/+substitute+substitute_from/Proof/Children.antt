@@ -1,4 +1,4 @@
--- `inst_from` meets its contract: the children behind this one are made first, then this one.
+-- `substitute_from` meets its contract: the children behind this one are made first, then this one.
 use mathlib.Core.Path.{_≡_, _∙_}
 use Prim.Native.Nat.{ℕ, _+_, _<_}
 use native.Mathlib.Omega.{arith}
@@ -10,23 +10,23 @@ use Rattle.contraction.proofs.substitute.+substitute+substitute_from.Lt
 use Rattle.contraction.proofs.substitute.+substitute+substitute_from.Proof.Measure.{substitute-from-at, substitute-from-calls}
 
 module _ (t : ℕ) where
-  pub from-field-requires : substitute-from-lts.Need-field-requires (substitute-from-calls t) (substitute-from-at t) substitute-from.Post
-  from-field-requires c κs =
+  pub from-child-count-requires : substitute-from-lts.Need-child-count-requires (substitute-from-calls t) (substitute-from-at t) substitute-from.Post
+  from-child-count-requires c κs =
       let i = c .before .before .before .pre .1 .0 in
-      (i .room .all, omega (arith, i .lower, i .room .left), omega arith)
+      (i .room .all, omega (arith, i .lower, i .room .left))
 
-  abbrev begin : substitute-from-lts.After-field (substitute-from-calls t) (substitute-from-at t) substitute-from.Post → substitute-from-lts.Start (substitute-from-calls t) (substitute-from-at t) substitute-from.Post
+  abbrev begin : substitute-from-lts.After-child-count (substitute-from-calls t) (substitute-from-at t) substitute-from.Post → substitute-from-lts.Start (substitute-from-calls t) (substitute-from-at t) substitute-from.Post
   begin c = c .before .before .before .before
 
   pub from-returns : substitute-from-lts.Need-returns (substitute-from-calls t) (substitute-from-at t) substitute-from.Post
-  from-returns c = none-left (omega (arith, c .before .field .ensures)) (begin (c .before) .pre .1 .1)
+  from-returns c = none-left (omega (arith, c .before .child-count .ensures)) (begin (c .before) .pre .1 .1)
 
   -- where the call begins, from where a child is known to be left
   abbrev start : substitute-from-lts.Else1 (substitute-from-calls t) (substitute-from-at t) substitute-from.Post → substitute-from-lts.Start (substitute-from-calls t) (substitute-from-at t) substitute-from.Post
   start c = begin (c .before)
 
   more : (c : substitute-from-lts.Else1 (substitute-from-calls t) (substitute-from-at t) substitute-from.Post) → let args = start c .args in args .j < field (args .cells .now) (args .cell) 2
-  more c = omega (arith, c .before .field .ensures, c .if1 .left)
+  more c = omega (arith, c .before .child-count .ensures, c .if1 .left)
 
   pub from-add-substitute-from : substitute-from-lts.Need-add-substitute-from (substitute-from-calls t) (substitute-from-at t) substitute-from.Post
   from-add-substitute-from c =
@@ -42,29 +42,24 @@ module _ (t : ℕ) where
   abbrev tested : substitute-from-lts.After-substitute-from (substitute-from-calls t) (substitute-from-at t) substitute-from.Post → substitute-from-lts.Else1 (substitute-from-calls t) (substitute-from-at t) substitute-from.Post
   tested c = c .before .before .before .before
 
-  pub from-add-field : substitute-from-lts.Need-add-field (substitute-from-calls t) (substitute-from-at t) substitute-from.Post
-  from-add-field c =
-      let test = tested (c .before .before .before) in
-      omega (arith, more test, start test .pre .1 .0 .four)
-
-  pub from-field-requires-2 : substitute-from-lts.Need-field-requires-2 (substitute-from-calls t) (substitute-from-at t) substitute-from.Post
-  from-field-requires-2 c κs =
+  pub from-child-at-requires : substitute-from-lts.Need-child-at-requires (substitute-from-calls t) (substitute-from-at t) substitute-from.Post
+  from-child-at-requires c κs =
       let behind = c .before .before .before in
       let test = tested behind in
       let i = start test .pre .1 .0 in
       (child-long i (more test) (omega arith) (behind .substitute-from .ensures), omega (arith, i .lower, i .room .left), omega (arith, more test, i .four))
 
-  abbrev followed : substitute-from-lts.After-field2 (substitute-from-calls t) (substitute-from-at t) substitute-from.Post → substitute-from-lts.After-substitute-from (substitute-from-calls t) (substitute-from-at t) substitute-from.Post
+  abbrev followed : substitute-from-lts.After-child-at (substitute-from-calls t) (substitute-from-at t) substitute-from.Post → substitute-from-lts.After-substitute-from (substitute-from-calls t) (substitute-from-at t) substitute-from.Post
   followed c = c .before .before .before .before
 
   -- the cell that is read is this child's
-  child-is : (c : substitute-from-lts.After-field2 (substitute-from-calls t) (substitute-from-at t) substitute-from.Post) → let args = start (tested (followed c)) .args in
-      c .field2 .result ≡ field (args .cells .now) (args .cell) (3 + args .j)
+  child-is : (c : substitute-from-lts.After-child-at (substitute-from-calls t) (substitute-from-at t) substitute-from.Post) → let args = start (tested (followed c)) .args in
+      c .child-at .result ≡ field (args .cells .now) (args .cell) (3 + args .j)
   child-is c =
       let behind = followed c in
       let test = tested behind in
       let i = start test .pre .1 .0 in
-      c .field2 .ensures ∙ child-same i (more test) (omega arith) (behind .substitute-from .ensures) (3 + start test .args .j) (omega (arith, more test, i .four))
+      c .child-at .ensures ∙ child-same i (more test) (omega arith) (behind .substitute-from .ensures) (3 + start test .args .j) (omega (arith, more test, i .four))
 
   pub from-substitute-requires : substitute-from-lts.Need-substitute-requires (substitute-from-calls t) (substitute-from-at t) substitute-from.Post
   from-substitute-requires c κs =
@@ -74,7 +69,7 @@ module _ (t : ℕ) where
       let (measure, (i, four)) = start test .pre in
       (omega (arith, this i (more test) .falls, child-is child), child-instance i (more test) (omega arith) (behind .substitute-from .ensures) _ (child-is child))
 
-  abbrev child-read : substitute-from-lts.After-substitute (substitute-from-calls t) (substitute-from-at t) substitute-from.Post → substitute-from-lts.After-field2 (substitute-from-calls t) (substitute-from-at t) substitute-from.Post
+  abbrev child-read : substitute-from-lts.After-substitute (substitute-from-calls t) (substitute-from-at t) substitute-from.Post → substitute-from-lts.After-child-at (substitute-from-calls t) (substitute-from-at t) substitute-from.Post
   child-read c = c .before .before .before
 
   pub from-mul-children : substitute-from-lts.Need-mul-children (substitute-from-calls t) (substitute-from-at t) substitute-from.Post

@@ -9,7 +9,9 @@ use Rattle.contraction.proofs.substitute.+substitute+substitute_from.Lt
 use Rattle.contraction.proofs.substitute.substitute_from.Reads as substitute-from
 use Rattle.contraction.proofs.substitute.substitute_from.Kinds as substitute-from-kinds
 use Rattle.contraction.proofs.substitute.+substitute+substitute_from.Lts-substitute_from as substitute-from-lts
-use Rattle.cells.proofs.cells.field.Reads as field-reads
+use Rattle.cells.proofs.cells.read_cell.Reads as read-cell-reads
+use Rattle.cells.proofs.cells.child_count.Reads as child-count-reads
+use Rattle.cells.proofs.cells.child_at.Reads as child-at-reads
 use Rattle.contraction.proofs.contract_terminal.contract_terminal.Reads as contract-terminal-reads
 use Rattle.contraction.proofs.contract_chain.contract_chain.Reads as contract-chain-reads
 
@@ -34,8 +36,8 @@ module _ (t : ℕ) where
 
   abbrev pub substitute-calls : substitute-lts.Claims
   substitute-calls = (
-    field-reads.Asked,
-    field-reads.Learnt,
+    read-cell-reads.Asked,
+    read-cell-reads.Learnt,
     substitute-below,
     substitute.Post,
     contract-chain-reads.Asked,
@@ -47,4 +49,4 @@ module _ (t : ℕ) where
   )
 
   abbrev pub substitute-from-calls : substitute-from-lts.Claims
-  substitute-from-calls = (field-reads.Asked, field-reads.Learnt, substitute-from-below, substitute-from.Post, substitute-below, substitute.Post)
+  substitute-from-calls = (child-count-reads.Asked, child-count-reads.Learnt, substitute-from-below, substitute-from.Post, child-at-reads.Asked, child-at-reads.Learnt, substitute-below, substitute.Post)

@@ -20,9 +20,9 @@ Inv-loop alphabet automaton links tree at children masks₀ sets₀ end₀ j₀ 
     (length masks ≡ length masks₀)
     × (length sets ≡ 4)
     × (j ≤ children)
-    × (end ≡ endOf alphabet tree at j)
-    × Noted alphabet automaton tree at end masks₀ masks
-    × (take j sets ≡ masksFrom alphabet automaton tree at j)
+    × (end ≡ endOf (now alphabet) (now tree) at j)
+    × Noted (now alphabet) (now automaton) (now tree) at end masks₀ masks
+    × (take j sets ≡ masksFrom (now alphabet) (now automaton) (now tree) at j)
 
 abbrev pub μ-loop : children-lts.MeasureT-loop
 μ-loop alphabet automaton links tree at children masks₀ sets₀ end₀ j₀ masks sets end j = children - j
@@ -30,25 +30,25 @@ abbrev pub μ-loop : children-lts.MeasureT-loop
 module _ (t : ℕ) where
   abbrev entry : children-lts.At-loop (children-claims t) (children-at t) read-children.Post Inv-loop μ-loop
       → children-lts.Start (children-claims t) (children-at t) read-children.Post Inv-loop μ-loop
-  entry c = c .before .before .before .before .before
+  entry c = c .before .before
 
   pub children-loop-holds : children-lts.Need-loop-holds (children-claims t) (children-at t) read-children.Post Inv-loop μ-loop
   unfolding preorders firsts masks
   children-loop-holds c =
-      let (checked, few, there, four) = c .before .before .before .before .pre .1 in
+      let (checked, few, there, four) = c .before .pre .1 in
       (refl, four, omega arith, omega arith, noted-none _ _, refl)
 
   -- the next child is there, and is a node of the tree
   child-counted : (c : children-lts.In-loop (children-claims t) (children-at t) read-children.Post Inv-loop μ-loop)
       → let args = entry (c .before) .args in
-      c .before .loop .j < count (treesFrom (now (args .alphabet)) (now (args .tree)) (args .at))
+      c .before .loop .j < count (treesFrom (now (now (args .alphabet))) (now (now (args .tree))) (args .at))
   child-counted c = omega (arith, c .loop-test .taken, entry (c .before) .pre .1 .2)
 
   child-there : (c : children-lts.In-loop (children-claims t) (children-at t) read-children.Post Inv-loop μ-loop)
-      → c .before .loop .end < length (now (entry (c .before) .args .tree))
+      → c .before .loop .end < length (now (now (entry (c .before) .args .tree)))
   child-there c =
       let args = entry (c .before) .args in
-      omega (arith, c .before .loop .inv .3, tree-there (now (args .alphabet)) (now (args .tree)) (args .at) (c .before .loop .j) (child-counted c))
+      omega (arith, c .before .loop .inv .3, tree-there (now (now (args .alphabet))) (now (now (args .tree))) (args .at) (c .before .loop .j) (child-counted c))
 
   pub children-read-node-requires : children-lts.Need-read-node-requires (children-claims t) (children-at t) read-children.Post Inv-loop μ-loop
   children-read-node-requires c κs =
@@ -93,4 +93,4 @@ module _ (t : ℕ) where
       let l = c .before in
       let (kept, room, most, end, noted, read) = l .loop .inv in
       let all : l .loop .j ≡ entry l .args .children = omega arith in
-      (rw all at end, (noted, rw all at read))
+      (rw all at end, (noted, (room, rw all at read)))

@@ -11,32 +11,29 @@ use Rattle.plain_walk.proofs.walk.+read_children+read_node.Lts-read_chi
 use Rattle.plain_walk.proofs.walk.read_node.Reads as read-node
 use Rattle.plain_walk.proofs.walk.read_node.Kinds as read-node-kinds
 use Rattle.plain_walk.proofs.walk.+read_children+read_node.Lts-read_node as node-lts
-use Rattle.plain_walk.proofs.walk.bottom_of.Reads as bottom-of
-use Rattle.plain_walk.proofs.walk.note_up.Reads as note-up
-use Rattle.transitions.proofs.step.step_closed.Reads as step-closed
-use Rattle.checks.proofs.alphabet.rank_of.Reads as rank-of
+use Rattle.transitions.proofs.step.step_from.Reads as step-from
 
-abbrev pub μ-children : Measures 6 read-children-kinds.ps ℕ
-μ-children κs a = 5 * (length (now (a .1 .1 .1 .0)) - a .1 .1 .1 .1 .0) + a .1 .1 .1 .1 .1 .0
+abbrev pub μ-children : Measures 9 read-children-kinds.ps ℕ
+μ-children κs a = 5 * (length (now (now (a .1 .1 .1 .0))) - a .1 .1 .1 .1 .0) + a .1 .1 .1 .1 .1 .0
 
-abbrev pub μ-node : Measures 5 read-node-kinds.ps ℕ
-μ-node κs a = 5 * (length (now (a .1 .1 .1 .0)) - a .1 .1 .1 .1 .0)
+abbrev pub μ-node : Measures 8 read-node-kinds.ps ℕ
+μ-node κs a = 5 * (length (now (now (a .1 .1 .1 .0))) - a .1 .1 .1 .1 .0)
 
 module _ (t : ℕ) where
-  abbrev pub children-at : In 6 read-children-kinds.ps
-  children-at = and 6 read-children-kinds.ps (is 6 read-children-kinds.ps μ-children t) read-children.Pre
+  abbrev pub children-at : In 9 read-children-kinds.ps
+  children-at = and 9 read-children-kinds.ps (is 9 read-children-kinds.ps μ-children t) read-children.Pre
 
-  abbrev pub children-below : In 6 read-children-kinds.ps
-  children-below = and 6 read-children-kinds.ps (falls 6 read-children-kinds.ps _<_ μ-children t) read-children.Pre
+  abbrev pub children-below : In 9 read-children-kinds.ps
+  children-below = and 9 read-children-kinds.ps (falls 9 read-children-kinds.ps _<_ μ-children t) read-children.Pre
 
-  abbrev pub node-at : In 5 read-node-kinds.ps
-  node-at = and 5 read-node-kinds.ps (is 5 read-node-kinds.ps μ-node t) read-node.Pre
+  abbrev pub node-at : In 8 read-node-kinds.ps
+  node-at = and 8 read-node-kinds.ps (is 8 read-node-kinds.ps μ-node t) read-node.Pre
 
-  abbrev pub node-below : In 5 read-node-kinds.ps
-  node-below = and 5 read-node-kinds.ps (falls 5 read-node-kinds.ps _<_ μ-node t) read-node.Pre
+  abbrev pub node-below : In 8 read-node-kinds.ps
+  node-below = and 8 read-node-kinds.ps (falls 8 read-node-kinds.ps _<_ μ-node t) read-node.Pre
 
   abbrev pub children-claims : children-lts.Claims
   children-claims = (node-below, read-node.Post)
 
   abbrev pub node-claims : node-lts.Claims
-  node-claims = (bottom-of.Asked, bottom-of.Learnt, rank-of.Asked, rank-of.Learnt, children-below, read-children.Post, step-closed.Asked, step-closed.Learnt, note-up.Asked, note-up.Learnt)
+  node-claims = (children-below, read-children.Post, step-from.Asked, step-from.Learnt)

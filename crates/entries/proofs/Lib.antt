@@ -1,0 +1,2 @@
+pub mod OfRule
+pub mod Entries

@@ -1,0 +1,2 @@
+// Positions of what the rules of a table derive.
+pub mod place;

@@ -1,0 +1,3 @@
+// The size of the tree that a form derives.
+pub mod answer;
+pub mod size;

@@ -1,0 +1,103 @@
+-- `write_slots` meets its contract. The invariant: what was to be written into the tree at first is what is left to be written now.
+-- A slot's count is the number of its symbols, since these fit in the tree.
+use mathlib.Core.Path.{_≡_, refl, _∙_, ap}
+use Prim.Native.Nat.{ℕ, _+_, _-_}
+use native.Mathlib.Nat.{add-zero}
+use native.Mathlib.Omega.{arith}
+use lib.ListN.{length}
+use lib.Seq.{sets}
+use Rattle.terms.specs.Form.{Slots}
+use Rattle.terms.specs.FormBytes.{slotOf, tableRules}
+use Rattle.counting.specs.Private.Symbols.{symbolsBefore}
+use Rattle.counting.specs.Private.Counts.{slotsFrom}
+use Rattle.writing.specs.Writing.{valueIn, symbolsIn}
+use Rattle.counting.proofs.Slots.{slots-none}
+use Rattle.counting.proofs.Counted.{rule-there, counts-there}
+use Rattle.writing.proofs.write.Exact.{own-exact}
+use Rattle.writing.proofs.write.Slots.{SlotStep, slot-step, slot-written}
+use Rattle.writing.proofs.write.write_slots.Reads as write-slots
+use Rattle.writing.proofs.write.+write_part+write_rule+write_slots.Lts-write_slots as slots-lts
+use Rattle.writing.proofs.write.+write_part+write_rule+write_slots.Proof.Measure.{slots-at, slots-claims}
+
+abbrev pub Inv-loop : slots-lts.InvT-loop
+Inv-loop alphabet table counts rule from to tree₀ at end₀ j₀ tree end j =
+    (length tree ≡ length tree₀)
+    × Slots (tableRules alphabet table) (rule .0) (slotsFrom (slotOf table (rule .0)) j to)
+    × (end + length (symbolsIn alphabet table (rule .0) j to) ≡ at + length (symbolsIn alphabet table (rule .0) from to))
+    × (sets tree end (symbolsIn alphabet table (rule .0) j to) ≡ sets tree₀ at (symbolsIn alphabet table (rule .0) from to))
+
+abbrev pub μ-loop : slots-lts.MeasureT-loop
+μ-loop alphabet table counts rule from to tree₀ at end₀ j₀ tree end j = to - j
+
+module _ (t : ℕ) where
+  pub slots-loop-holds : slots-lts.Need-loop-holds (slots-claims t) (slots-at t) write-slots.Post Inv-loop μ-loop
+  slots-loop-holds c = (refl, c .before .before .before .before .pre .1 .1 .slots, refl, refl)
+
+  -- the rule's bytes stand in the table
+  pub slots-slot-of-requires : slots-lts.Need-slot-of-requires (slots-claims t) (slots-at t) write-slots.Post Inv-loop μ-loop
+  slots-slot-of-requires c κs =
+      let (known, room) = c .before .before .before .before .before .before .pre .1 in
+      (rule-there known _ (room .below), omega arith)
+
+  -- the slot of a turn
+  slot-known : (c : slots-lts.After-slot-of (slots-claims t) (slots-at t) write-slots.Post Inv-loop μ-loop)
+      → let args = c .before .before .before .before .before .before .before .args in
+      SlotStep (args .alphabet .now) (args .table .now) (args .rule .0) (c .before .before .loop .j) (args .to) (c .slot-of .result .0)
+  slot-known c =
+      let (known, room) = c .before .before .before .before .before .before .before .pre .1 in
+      slot-step _ _ _ known _ (room .below) _ _ _ (c .before .loop-test .taken) (c .before .before .loop .inv .1) (c .slot-of .ensures)
+
+  pub slots-write-part-requires : slots-lts.Need-write-part-requires (slots-claims t) (slots-at t) write-slots.Post Inv-loop μ-loop
+  slots-write-part-requires c κs =
+      let slot = slot-known (c .before) in
+      let (measure, (known, room)) = c .before .before .before .before .before .before .before .before .pre in
+      (omega arith, (known, record { below = omega arith; shut = λ e. refl; fits = omega (arith, ap length (slot .none)) }))
+
+  pub slots-own-of-requires : slots-lts.Need-own-of-requires (slots-claims t) (slots-at t) write-slots.Post Inv-loop μ-loop
+  slots-own-of-requires c κs =
+      let slot = slot-known (c .before .before .before .before) in
+      counts-there (c .before .before .before .before .before .before .before .before .before .before .before .pre .1 .0) _ (omega arith)
+
+  -- the slot's count is the number of its symbols
+  slot-own : (c : slots-lts.After-own-of (slots-claims t) (slots-at t) write-slots.Post Inv-loop μ-loop)
+      → let turn = c .before .before .before .before .before in
+      let args = turn .before .before .before .before .before .before .before .args in
+      c .own-of .result ≡ length (symbolsBefore (valueIn (args .alphabet .now) (args .table .now) (turn .slot-of .result .0)))
+  slot-own c =
+      let turn = c .before .before .before .before .before in
+      let slot = slot-known turn in
+      let start = turn .before .before .before .before .before .before .before in
+      let (known, room) = start .pre .1 in
+      let none = ap length (slot .none) in
+      c .own-of .ensures ∙ own-exact known _ (omega arith) (omega arith) ∙ omega arith
+
+  pub slots-add-end : slots-lts.Need-add-end (slots-claims t) (slots-at t) write-slots.Post Inv-loop μ-loop
+  slots-add-end c = omega (arith, slot-own c, slot-known (c .before .before .before .before .before) .long)
+
+  pub slots-add-j : slots-lts.Need-add-j (slots-claims t) (slots-at t) write-slots.Post Inv-loop μ-loop
+  slots-add-j c = omega arith
+
+  pub slots-loop-less : slots-lts.Need-loop-less (slots-claims t) (slots-at t) write-slots.Post Inv-loop μ-loop
+  slots-loop-less c = omega arith
+
+  pub slots-loop-again : slots-lts.Need-loop-again (slots-claims t) (slots-at t) write-slots.Post Inv-loop μ-loop
+  slots-loop-again c =
+      let turn = c .before .before .before .before .before in
+      let slot = slot-known turn in
+      let (kept, more, end, same) = turn .before .before .loop .inv in
+      let wrote = c .before .before .before .write-part in (
+        wrote .kept .1 .1 .1 .1 .0 ∙ kept,
+        slot .rest,
+        omega (arith, slot-own c),
+        slot-written _ _ _ _ _ _ slot (turn .before .before .loop .tree) _ (turn .before .before .loop .end) _ (wrote .ensures) (slot-own c) ∙ same,
+      )
+
+  pub slots-same-length : slots-lts.Need-same-length (slots-claims t) (slots-at t) write-slots.Post Inv-loop μ-loop
+  slots-same-length c = c .before .loop .inv .0
+
+  pub slots-returns : slots-lts.Need-returns (slots-claims t) (slots-at t) write-slots.Post Inv-loop μ-loop
+  slots-returns c =
+      let (kept, more, end, same) = c .before .loop .inv in
+      let args = c .before .before .before .before .before .before .args in
+      let none = slots-none (slotOf (args .table .now) (args .rule .0)) (c .before .loop .j) (args .to) (c .loop-test .left) in
+      (rw (none, add-zero) at end, rw none at same)
