@@ -16,6 +16,7 @@ pub fn answer(call: &Call, stored: &str) -> Result<String, String> {
         }
         Call::Certify { sheet, rooms } => free::certify(sheet, rooms, stored)?,
         Call::Rule { alphabet, form, number } => fixed::rule(alphabet, form, *number),
+        Call::Rules { alphabet, form } => fixed::rules(alphabet, form),
         Call::Size { alphabet, form, numbers } => fixed::size(alphabet, form, *numbers),
         Call::Label { alphabet, form, position, numbers } => {
             fixed::label(alphabet, form, *position, *numbers)

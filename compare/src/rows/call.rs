@@ -10,6 +10,7 @@ pub enum Call {
     Mark { sheet: Vec<u8>, room: usize, numbers: usize, tally: [u32; 3] },
     Certify { sheet: Vec<u8>, rooms: Rooms },
     Rule { alphabet: Vec<u8>, form: Vec<u8>, number: usize },
+    Rules { alphabet: Vec<u8>, form: Vec<u8> },
     Size { alphabet: Vec<u8>, form: Vec<u8>, numbers: usize },
     Label { alphabet: Vec<u8>, form: Vec<u8>, position: u64, numbers: usize },
     Unfold { alphabet: Vec<u8>, form: Vec<u8>, numbers: usize, room: usize },
@@ -46,7 +47,7 @@ impl Call {
         let mut fields = Fields::of(text.strip_prefix(' ')?);
         let call = match fields.word()? {
             name @ ("line" | "make" | "mark" | "certify") => sheet_call(name, &mut fields)?,
-            name @ ("rule" | "size" | "label" | "unfold") => form_call(name, &mut fields)?,
+            name @ ("rule" | "rules" | "size" | "label" | "unfold") => form_call(name, &mut fields)?,
             name @ ("evaluate" | "walk" | "wrap") => tree_call(name, &mut fields)?,
             "accept" => Call::Step { step: Step::Accept, tally: fields.tally()? },
             "decline" => Call::Step { step: Step::Decline, tally: fields.tally()? },
@@ -87,6 +88,7 @@ fn form_call(name: &str, fields: &mut Fields) -> Option<Call> {
     let (alphabet, form) = (fields.bytes()?, fields.bytes()?);
     Some(match name {
         "rule" => Call::Rule { alphabet, form, number: fields.rule()? },
+        "rules" => Call::Rules { alphabet, form },
         "size" => Call::Size { alphabet, form, numbers: fields.numbers()? },
         "label" => {
             Call::Label { alphabet, form, position: fields.number()?, numbers: fields.numbers()? }

@@ -8,6 +8,20 @@ pub fn rule(alphabet: &[u8], form: &[u8], number: usize) -> String {
     told(calls::read_rule(alphabet, form, number), rule_text)
 }
 
+/// Every rule by its number, then what is said of the number after the last.
+pub fn rules(alphabet: &[u8], form: &[u8]) -> String {
+    let mut texts = Vec::new();
+    for number in 0.. {
+        let read = calls::read_rule(alphabet, form, number);
+        let refused = read.is_err();
+        texts.push(told(read, rule_text));
+        if refused {
+            break;
+        }
+    }
+    texts.join(", ")
+}
+
 pub fn size(alphabet: &[u8], form: &[u8], numbers: usize) -> String {
     let mut counts = lent(numbers);
     told(calls::size(alphabet, form, &mut counts), size_text) + &slice("counts", &counts)

@@ -1,32 +1,47 @@
--- Reading a rule into a slice: what is known where nothing is refused, and the seven numbers in their places.
-use mathlib.Core.Path.{_≡_, refl}
-use mathlib.Core.List.{List, [], _∷_}
-use Prim.Native.Nat.{ℕ, _≤_, _<_}
+-- Reading a rule into a slice: the call's refusal and slice by what reading a number answered, and the seven numbers in their places.
+use mathlib.Core.Path.{_≡_, refl, subst}
+use mathlib.Core.List.{List, [], _∷_, _++_}
+use Prim.Native.Nat.{ℕ, zero, suc, _≤_}
 use native.Mathlib.Omega.{arith}
-use borrow.Author.Tests.{ltb-false, leb-false}
-use lib.Dec.{leb, ltb}
+use borrow.Author.Tests.{le-leb, le-ltb}
+use lib.Dec.{leb}
 use lib.ListN.{length, drop, set}
-use Rattle.terms.specs.Check.{alphabetRefusal}
-use Rattle.terms.specs.FormBytes.{ruleCount, formRefusal}
-use Rattle.terms.specs.Calls.{openingRefusal}
-use Rattle.terms.proofs.Refusal.{none-before, no-row}
-use Rattle.forms.proofs.Rules.{opening-passed}
-use Rattle.capi.specs.Result.{ruleCallRefusal}
+use Rattle.terms.specs.Refusal.{_when_, first}
+use Rattle.terms.specs.Answer.{Answer, refused, answered, answer}
+use Rattle.terms.specs.FormBytes.{ruleCount, tableOf}
+use Rattle.terms.specs.Calls.{lentAfter, openingRefusal, readingRefusal}
+use Rattle.form_bytes.specs.declared.rule.FormRule.{FormRule}
+use Rattle.form_bytes.specs.Fields.{fieldsAt}
+use Rattle.forms.proofs.Rules.{passed, opening-passed}
+use Rattle.opening.specs.Reading.{ruleReading}
+use Rattle.capi.specs.Result.{ruleNumbers, ruleCallRefusal}
+use Rattle.capi.proofs.Answered.{numberOf}
 
--- alphabet and form pass, there are seven places, and the form has the rule
-pub record RulePassed (alphabet form : List ℕ) (number room : ℕ) : Type 0 where
-  pub ranked : alphabetRefusal alphabet ≡ 0
-  pub valid : formRefusal alphabet form ≡ 0
-  pub places : 7 ≤ room
-  pub exists : number < ruleCount form
+-- two numbers that no rule has are read alike
+module _ (alphabet form : List ℕ) (i j : ℕ) (l : i ≤ j) where
+  by-refusal : (refusal : ℕ) (v w : FormRule) → (refusal ≡ 0 → ruleCount form ≤ i)
+      → answer (first (refusal ∷ 21 when (leb (ruleCount form) i) ∷ [])) v ≡ answer (first (refusal ∷ 21 when (leb (ruleCount form) j) ∷ [])) w
+  by-refusal zero v w h = rw (le-leb (ruleCount form) i (h refl), le-leb (ruleCount form) j (omega (arith, h refl)))
+  by-refusal (suc n) v w h = refl
 
-pub rule-passed : (alphabet form : List ℕ) (number room : ℕ) → ruleCallRefusal alphabet form number room ≡ 0 → RulePassed alphabet form number room
-unfolding ruleCallRefusal
-rule-passed alphabet form number room e =
-    let (opened, rest) = none-before (openingRefusal alphabet form) _ e in
-    let (short, last) = no-row 18 (ltb room 7) _ rest in
-    let (ranked, valid) = opening-passed alphabet form opened in
-    record { ranked = ranked; valid = valid; places = ltb-false _ _ short; exists = leb-false _ _ (no-row 20 (leb (ruleCount form) number) _ last .0) }
+  pub read-alike : 65535 ≤ i → ruleReading alphabet form i ≡ ruleReading alphabet form j
+  unfolding ruleReading readingRefusal
+  read-alike h = by-refusal (openingRefusal alphabet form) _ _ (λ e. let (a, f) = opening-passed alphabet form e in omega (arith, passed alphabet form a f .few))
+
+-- the slice after a reading
+abbrev sliceAfter : Answer FormRule → List ℕ → List ℕ
+sliceAfter (refused n) entry = entry
+sliceAfter (answered rule) entry = ruleNumbers rule ++ drop 7 entry
+
+said-by : (k : ℕ) (v : FormRule) (entry : List ℕ) (r : Answer FormRule) → answer k v ≡ r → (numberOf r ≡ k) × (sliceAfter r entry ≡ lentAfter k (ruleNumbers v) entry)
+said-by zero v entry r e = subst (λ (x : Answer FormRule). (numberOf x ≡ zero) × (sliceAfter x entry ≡ lentAfter zero (ruleNumbers v) entry)) e (refl, refl)
+said-by (suc k) v entry r e = subst (λ (x : Answer FormRule). (numberOf x ≡ suc k) × (sliceAfter x entry ≡ lentAfter (suc k) (ruleNumbers v) entry)) e (refl, refl)
+
+-- with seven places the call refuses what reading refuses, and writes what it reads
+pub reading-said : (alphabet form : List ℕ) (number : ℕ) (entry : List ℕ) (r : Answer FormRule) → 7 ≤ length entry → ruleReading alphabet form number ≡ r
+    → (let refusal = ruleCallRefusal alphabet form number (length entry) in (numberOf r ≡ refusal) × (sliceAfter r entry ≡ lentAfter refusal (ruleNumbers (fieldsAt (tableOf form) number)) entry))
+unfolding ruleReading readingRefusal ruleCallRefusal
+reading-said alphabet form number entry r h e = rw (le-ltb (length entry) 7 h) (said-by (readingRefusal alphabet form number) (fieldsAt (tableOf form) number) entry r e)
 
 -- seven numbers put into the first places of a list
 pub seven-set : (a b c d e f g : ℕ) (l : List ℕ) → 7 ≤ length l

@@ -1,8 +1,8 @@
 // Reading a rule of a form.
-use form_bytes::layout;
 use form_bytes::rule::FormRule;
-use form_bytes::rule::rule_at;
 use forms::check::check_opening;
+use opening::RuleReading;
+use opening::read;
 use terms::Rule;
 ghost use mathlib.Core.Path.{_≡_};
 ghost use mathlib.Core.List.{_++_};
@@ -11,26 +11,23 @@ ghost use lib.ListN.{length, drop};
 ghost use Rattle.terms.specs.FormBytes.{tableOf};
 ghost use Rattle.terms.specs.Calls.{lentAfter};
 ghost use Rattle.form_bytes.specs.Fields.{fieldsAt};
+ghost use Rattle.opening.specs.Reading.{answerOfRule, ruleReading};
 ghost use Rattle.capi.specs.Result.{ruleNumbers, ruleCallRefusal};
 
 // How many numbers a rule is: kind, terminal, hole and four slots.
 const NUMBERS: usize = 7;
 
-// What is refused of alphabet, form, number and the length of the slice; 0 where nothing is.
-fn rule_call_refusal(alphabet: &[u8], form: &[u8], number: usize, room: usize) -> u8
-    ensures { λ r. ⌜ r ≡ ruleCallRefusal (now (alphabet .entry)) (now (form .entry)) number room ⌝ }
+// The largest number of 16 bits, which no rule has.
+const NO_RULE: u16 = u16::MAX;
+
+// Opens a form and reads the rule of a number, which may be larger than rule numbers are.
+fn read_number(alphabet: &[u8], form: &[u8], number: usize) -> RuleReading
+    ensures { λ r. ⌜ answerOfRule r ≡ ruleReading (now (alphabet .entry)) (now (form .entry)) number ⌝ }
 {
-    let refusal = check_opening(alphabet, form);
-    if refusal != 0 {
-        return refusal;
+    if number < NO_RULE as usize {
+        return read(alphabet, form, Rule(number as u16));
     }
-    if room < NUMBERS {
-        return 19;
-    }
-    if layout::rule_count(form) <= number {
-        return 21;
-    }
-    0
+    read(alphabet, form, Rule(NO_RULE))
 }
 
 // The numbers of a rule, at the beginning of a slice.
@@ -53,12 +50,18 @@ pub extern "C" fn ewf_read_rule(alphabet: &[u8], form: &[u8], number: usize, rul
     ensures refusal { λ r. ⌜ r ≡ ruleCallRefusal (now (alphabet .entry)) (now (form .entry)) number (length (now (rule .entry))) ⌝ }
     ensures rule { λ _. ⌜ now (rule .exit) ≡ lentAfter (ruleCallRefusal (now (alphabet .entry)) (now (form .entry)) number (length (now (rule .entry)))) (ruleNumbers (fieldsAt (tableOf (now (form .entry))) number)) (now (rule .entry)) ⌝ }
 {
-    let refusal = rule_call_refusal(alphabet, form, number, rule.len());
-    if refusal != 0 {
-        return refusal;
+    if rule.len() < NUMBERS {
+        let refusal = check_opening(alphabet, form);
+        if refusal != 0 {
+            return refusal;
+        }
+        return 19;
     }
-    let place = number as u16;
-    let read = rule_at(layout::table_of(form), Rule(place));
-    write_numbers(read, rule);
-    0
+    match read_number(alphabet, form, number) {
+        RuleReading::Refused(n) => n,
+        RuleReading::Read(read) => {
+            write_numbers(read, rule);
+            0
+        }
+    }
 }

@@ -14,6 +14,8 @@ use row_answers::answers::say_reading;
 use row_answers::answers::say_size;
 use row_answers::answers::say_step;
 use row_answers::certify::certify_into;
+use row_answers::rules::rule_number;
+use row_answers::rules::say_rules;
 use rows::lend::BYTE;
 use rows::lend::MOST_BYTES;
 use rows::lend::MOST_NUMBERS;
@@ -28,6 +30,7 @@ use rows::names::LINE;
 use rows::names::MAKE;
 use rows::names::MARK;
 use rows::names::RULE;
+use rows::names::RULES;
 use rows::names::SIZE;
 use rows::names::UNFOLD;
 use rows::names::WALK;
@@ -45,7 +48,6 @@ use sizing::size::size;
 use tallies::mark::mark;
 use tallies::tally::Step;
 use tallies::tally::Tally;
-use terms::Rule;
 use unfolding::unfold::unfold;
 use wrapping::wrap::wrap;
 
@@ -73,10 +75,6 @@ fn step(call: usize, tally: Tally) -> Step {
         DECLINE => tally.decline(),
         _ => tally.turn_away(),
     }
-}
-
-fn rule_of(number: usize) -> Rule {
-    Rule(within(number, 65535) as u16)
 }
 
 // The length of the slice of bytes that a call is lent, which is one of the fields of its row.
@@ -131,7 +129,8 @@ fn answer(
         MAKE => say_length(make_form(a, bytes)),
         MARK => say_marking(mark(a, bytes, numbers, tally_of(n[5], n[6], n[7]))),
         CERTIFY => certify_into(a, bytes, numbers, n),
-        RULE => say_reading(read(a, b, rule_of(n[4]))),
+        RULE => say_reading(read(a, b, rule_number(n[4]))),
+        RULES => say_rules(a, b),
         EVALUATE => say_mask(evaluate(a, b, c, numbers)),
         SIZE => say_size(size(a, b, numbers)),
         LABEL => say_label(label(a, b, n[4] as u64, numbers)),

@@ -27,13 +27,13 @@ pub struct OpenForm<'a> {
 }
 
 // What the check of a form finds: how many rules can be read, none where it is refused, and the refusal.
-struct Opening {
-    rules: usize,
-    refusal: u8,
+pub struct Opening {
+    pub rules: usize,
+    pub refusal: u8,
 }
 
 // Checks a form for an alphabet and counts its rules.
-fn check_and_count(alphabet: &[u8], form: &[u8]) -> Opening
+pub fn check_and_count(alphabet: &[u8], form: &[u8]) -> Opening
     ensures { λ r. ⌜ (let refusal = openingRefusal (now (alphabet .entry)) (now (form .entry)) in (r .rules ≡ openedRules (now (form .entry)) refusal) × (r .refusal ≡ refusal)) ⌝ }
 {
     let refusal = check::check_opening(alphabet, form);

@@ -16,6 +16,8 @@ pub const TURN_AWAY: usize = 0x7572_6E5F_6177_6179;
 
 pub const RULE: usize = 0x7275_6C65;
 
+pub const RULES: usize = 0x72_756C_6573;
+
 pub const EVALUATE: usize = 0x6576_616C_7561_7465;
 
 pub const SIZE: usize = 0x7369_7A65;
@@ -35,7 +37,7 @@ pub const NONE: usize = 0;
 pub fn first_number(call: usize) -> usize {
     match call {
         LINE | MAKE | MARK | CERTIFY => 3,
-        RULE | SIZE | LABEL | UNFOLD => 4,
+        RULE | RULES | SIZE | LABEL | UNFOLD => 4,
         EVALUATE | WALK | WRAP => 5,
         _ => 2,
     }
@@ -45,7 +47,7 @@ pub fn first_number(call: usize) -> usize {
 pub fn fields_of(call: usize) -> usize {
     match call {
         LINE => 3,
-        MAKE => 4,
+        MAKE | RULES => 4,
         RULE | SIZE | ACCEPT | DECLINE | TURN_AWAY => 5,
         EVALUATE | LABEL | UNFOLD | WALK | WRAP => 6,
         MARK | CERTIFY => 8,

@@ -1,69 +1,71 @@
--- `capi::rule_calls::ewf_read_rule` meets its contract.
-use mathlib.Core.Path.{sym, ap, _∙_}
-use mathlib.Core.List.{List, _++_}
-use Prim.Native.Nat.{ℕ}
-use native.Mathlib.Omega.{arith}
-use lib.ListN.{drop}
+-- `capi::rule_calls::ewf_read_rule` meets its contract: a short slice is refused after what opening refuses, and in any other stands what was read.
+use mathlib.Core.Path.{refl, sym, ap, _∙_}
 use borrow.Author.Needs.{needs}
-use Rattle.terms.proofs.Lent.{lent-kept, lent-written}
-use Rattle.form_bytes.specs.declared.rule.FormRule.{FormRule}
-use Rattle.form_bytes.specs.Fields.{fieldsAt}
-use Rattle.forms.proofs.Rules.{rule-whole, passed, head-long, rules-in-table, valid-table}
-use Rattle.capi.specs.Result.{ruleNumbers}
-use Rattle.capi.proofs.RuleRead.{rule-passed}
+use borrow.Author.Tests.{lt-ltb}
+use Rattle.terms.proofs.Refusal.{is-first}
+use Rattle.terms.proofs.Lent.{lent-kept}
+use Rattle.opening.specs.Reading.{answerOfRule}
+use Rattle.capi.specs.Result.{ruleCallRefusal}
+use Rattle.capi.proofs.RuleRead.{reading-said}
 use Rattle.capi.proofs.rule_calls.ewf_read_rule.Statement.{statement}
 use Rattle.capi.proofs.rule_calls.ewf_read_rule.Tie as tie
 
-rule-call-refusal-requires : tie.Need-rule-call-refusal-requires
-rule-call-refusal-requires c κs = search needs
+check-opening-requires : tie.Need-check-opening-requires
+check-opening-requires c κs = search needs
 
 returns : tie.Need-returns
+unfolding ruleCallRefusal
 returns c =
-    let e = c .before .rule-call-refusal .ensures in
-    (e, lent-kept _ _ e (c .if1 .taken))
+    let e = is-first _ (c .before .check-opening .ensures) (c .if2 .taken) in
+    (e, lent-kept _ _ e (c .if2 .taken))
 
-cast-place : tie.Need-cast-place
-cast-place c =
-    let p = rule-passed _ _ _ _ (sym (c .before .rule-call-refusal .ensures) ∙ c .if1 .left) in
-    omega (arith, p .exists, passed _ _ (p .ranked) (p .valid) .few)
+returns-2 : tie.Need-returns-2
+unfolding ruleCallRefusal
+returns-2 c =
+    let opens = c .before in
+    rw (← opens .check-opening .ensures, c .if2 .left, lt-ltb _ _ (opens .before .if1 .taken)) (refl, refl)
 
-table-of-requires : tie.Need-table-of-requires
-table-of-requires c κs =
-    let p = rule-passed _ _ _ _ (sym (c .before .rule-call-refusal .ensures) ∙ c .if1 .left) in
-    head-long _ _ (p .ranked) (p .valid)
+read-number-requires : tie.Need-read-number-requires
+read-number-requires c κs = search needs
 
-rule-at-requires : tie.Need-rule-at-requires
-rule-at-requires c κs =
-    let checked = c .before in
-    let p = rule-passed _ _ _ _ (sym (checked .before .rule-call-refusal .ensures) ∙ checked .if1 .left) in
-    rw (c .table-of .ensures) (rule-whole _ _ (valid-table _ _ (p .ranked) (p .valid)) _ (omega (arith, p .exists, rules-in-table _ _ (p .ranked) (p .valid))))
+enum-known-n : tie.Need-enum-known-n
+enum-known-n c = search needs
+
+enum-known-read : tie.Need-enum-known-read
+enum-known-read c = search needs
 
 write-numbers-requires : tie.Need-write-numbers-requires
-write-numbers-requires c κs =
-    let checked = c .before .before .before in
-    rule-passed _ _ _ _ (sym (checked .before .rule-call-refusal .ensures) ∙ checked .if1 .left) .places
+write-numbers-requires c κs = c .before .before .before .before .before .if1 .left
+
+returns-3 : tie.Need-returns-3
+returns-3 c =
+    let told = c .before in
+    let call = told .before .before in
+    reading-said _ _ _ _ _ (call .before .if1 .left) (sym (call .read-number .ensures) ∙ ap answerOfRule (told .n .given .1))
 
 same-length : tie.Need-same-length
 same-length c = search needs
 
-returns-2 : tie.Need-returns-2
-returns-2 c =
-    let call = c .before .before in
-    let read = call .before .before in
-    let checked = read .before .before in
-    let given = checked .before .before .before .before .before .args in
-    let e = checked .before .rule-call-refusal .ensures in
-    (sym (checked .if1 .left) ∙ e, lent-written _ _ e (checked .if1 .left) (call .write-numbers .ensures ∙ ap (λ (r : FormRule). ruleNumbers r ++ drop 7 (given .rule .now)) (read .rule-at .ensures ∙ ap (λ (table : List ℕ). fieldsAt table (given .number)) (read .before .table-of .ensures))))
+returns-4 : tie.Need-returns-4
+returns-4 c =
+    let writes = c .before .before in
+    let told = writes .before .before .before in
+    let call = told .before .before in
+    let given = call .before .before .before .before .before .args in
+    let said = reading-said _ _ _ (given .rule .now) _ (call .before .if1 .left) (sym (call .read-number .ensures) ∙ ap answerOfRule (told .read .given .1)) in
+    (said .0, writes .write-numbers .ensures ∙ said .1)
 
 pub ewf-read-rule-spec : {M : Type 1} → statement M
 ewf-read-rule-spec =
     tie.close
     (tie.spec
-    rule-call-refusal-requires
+    check-opening-requires
     returns
-    cast-place
-    table-of-requires
-    rule-at-requires
+    returns-2
+    read-number-requires
+    enum-known-n
+    enum-known-read
     write-numbers-requires
+    returns-3
     same-length
-    returns-2)
+    returns-4)
