@@ -11,7 +11,13 @@
  * number of rules of a form, which EWF_RULES reads from its bytes. Who does not want to count lends the largest lengths.
  *
  * Threads and memory. A call keeps nothing behind: no state, no pointer, no heap. Calls may run at the same time on several threads,
- * where none writes what another one is given. */
+ * where none writes what another one is given.
+ *
+ * Stack. The most bytes that each call was seen to take, on the inputs of link/stack.c, which go deepest; link/stack measures them anew.
+ *   ewf_make_form 10,900    ewf_mark 11,092      ewf_evaluate 3,304     ewf_size 152     ewf_label 33,016
+ *   ewf_read_rule 56        ewf_unfold 460,704   ewf_walk 524,924       ewf_wrap 216
+ * Unfolding takes 208 bytes for each level of a form's rules, the walk 128 for each level of its tree; the other calls do not depend on
+ * what they are given, save making and marking, which take some hundred bytes less on most sheets. */
 #ifndef EWERFLINT_H
 #define EWERFLINT_H
 
