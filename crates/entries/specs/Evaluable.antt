@@ -10,7 +10,7 @@ use Rattle.terms.specs.Check.{automatonRefusal}
 use Rattle.terms.specs.FormBytes.{tableCount, tableRules}
 use Rattle.forms.specs.Private.Table.{ValidTable}
 use Rattle.relations.specs.Spread.{Spreads}
-use Rattle.transitions.specs.Links.{Linked}
+use Rattle.transition_links.specs.Links.{Linked}
 
 -- the entry of rule i in a list of entries, 0 where the list has none
 abbrev pub entryIn : List ℕ → ℕ → ℕ

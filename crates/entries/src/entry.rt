@@ -5,7 +5,7 @@ use relations::apply;
 use relations::compose;
 use relations::table::spread_table;
 use terms::Rule;
-use transitions::links::link_transitions;
+use transition_links::links::link_transitions;
 use transitions::step::step_closed;
 use transitions::step::step_open;
 ghost use mathlib.Core.Path.{_≡_};

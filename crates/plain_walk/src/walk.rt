@@ -5,7 +5,7 @@ use checks::limits::HIGHEST_RANK;
 use checks::tree::check_tree;
 use terms::Terminal;
 use terms::answers::MaskAnswer;
-use transitions::links::link_transitions;
+use transition_links::links::link_transitions;
 use transitions::step::step_from;
 ghost use mathlib.Core.Path.{_≡_};
 ghost use Prim.Native.Nat.{_≤_, _<_};

@@ -15,7 +15,7 @@ use Rattle.terms.specs.Relation.{matrix}
 use Rattle.terms.specs.Sheet.{transitionByte}
 use Rattle.terms.proofs.Test.{is-true}
 use Rattle.terms.proofs.Automaton.Relation.{matrix-cong}
-use Rattle.transitions.specs.Links.{First}
+use Rattle.transition_links.specs.Links.{First}
 use Rattle.transitions.specs.Step.{Usable, transitionWith, leads}
 use Rattle.relations.proofs.Laws.{some-gap}
 use Rattle.relations.proofs.Matrix.{no-pair, one-pair}

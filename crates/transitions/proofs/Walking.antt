@@ -9,7 +9,7 @@ use lib.ListN.{length, getD}
 use Rattle.terms.specs.Test.{some}
 use Rattle.terms.specs.Relation.{matrix}
 use Rattle.terms.specs.Sheet.{transitionCount, transitionByte}
-use Rattle.transitions.specs.Links.{First, heads}
+use Rattle.transition_links.specs.Links.{First, heads}
 use Rattle.transitions.specs.Step.{Walkable, transitionWith, leads, pairOf}
 use Rattle.relations.proofs.Matrix.{union-none, union-more}
 use Rattle.transitions.proofs.Leads.{pairs-gap}

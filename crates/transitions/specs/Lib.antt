@@ -1,3 +1,2 @@
--- The links of an automaton, and what a step asks and gives.
-pub mod Links
+-- What a step asks and gives.
 pub mod Step

@@ -11,7 +11,7 @@ use Rattle.terms.specs.Automaton.{Transition, has, fires, step}
 use Rattle.terms.specs.Relation.{matrix}
 use Rattle.terms.specs.Sheet.{transitionCount, transitionByte, transitionsOf}
 use Rattle.terms.specs.Check.{mostTransitions, alphabetRefusal, automatonRefusal}
-use Rattle.transitions.specs.Links.{Linked}
+use Rattle.transition_links.specs.Links.{Linked}
 
 -- an alphabet and an automaton that pass their checks, the automaton's links, and a terminal f of the alphabet
 pub record Ready (alphabet a links : List ℕ) (f : ℕ) : Type 0 where

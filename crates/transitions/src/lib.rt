@@ -1,3 +1,2 @@
 // The step of a node through the transitions of an automaton.
-pub mod links;
 pub mod step;

@@ -1,7 +1,7 @@
 // The states that a node can take, by the transitions of its terminal.
-use crate::links::HEADS;
 use terms::State;
 use terms::Terminal;
+use transition_links::links::HEADS;
 ghost use mathlib.Core.Path.{_≡_};
 ghost use Prim.Native.Nat.{ℕ, _<_};
 ghost use lib.ListN.{length, getD};

@@ -8,7 +8,7 @@ use Rattle.terms.specs.Grammar.{terminalRank}
 use Rattle.terms.specs.Automaton.{masks}
 use Rattle.terms.specs.Sheet.{transitionsOf}
 use Rattle.terms.specs.Calls.{walkRefusal, walkMask}
-use Rattle.transitions.specs.Links.{Linked}
+use Rattle.transition_links.specs.Links.{Linked}
 
 -- the trees that stand from a position of a preorder tree on, one behind the other (01 Plain walk)
 abbrev pub treesFrom : List ℕ → List ℕ → ℕ → Forest

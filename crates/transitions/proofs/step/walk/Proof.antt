@@ -8,7 +8,7 @@ use lib.ListN.{length, getD}
 use Rattle.terms.specs.Test.{some}
 use Rattle.terms.specs.Relation.{matrix}
 use Rattle.terms.specs.Sheet.{transitionCount}
-use Rattle.transitions.specs.Links.{heads}
+use Rattle.transition_links.specs.Links.{heads}
 use Rattle.transitions.specs.Step.{transitionWith, leads}
 use Rattle.transitions.proofs.Walking.{Walked, starts, goes-on, link-small, head-small}
 use Rattle.transitions.proofs.step.walk.Statement.{statement}

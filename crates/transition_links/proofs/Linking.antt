@@ -8,7 +8,7 @@ use native.Mathlib.Omega.{arith}
 use lib.ListN.{length, getD, set, length-set, replicate, getD-replicate}
 use lib.Seq.{getD-set-same, getD-set-other}
 use Rattle.terms.specs.Sheet.{transitionCount, transitionByte}
-use Rattle.transitions.specs.Links.{First, heads}
+use Rattle.transition_links.specs.Links.{First, heads}
 
 -- the transitions from i on are linked
 pub record LinkedFrom (a : List ℕ) (i : ℕ) (links : List ℕ) : Type 0 where

@@ -1,14 +1,14 @@
--- `transitions::links::link_transitions` meets its contract. The loop's invariant: the transitions from i on are linked.
+-- `transition_links::links::link_transitions` meets its contract. The loop's invariant: the transitions from i on are linked.
 use mathlib.Core.Path.{_≡_, refl, ap, subst}
 use Prim.Native.Nat.{ℕ, _+_, _-_, _*_, _≤_}
 use native.Mathlib.Omega.{arith}
 use lib.ListN.{getD}
 use borrow.Author.Needs.{needs}
 use Rattle.terms.specs.Sheet.{transitionCount}
-use Rattle.transitions.specs.Links.{First, heads}
-use Rattle.transitions.proofs.Linking.{LinkedFrom, linked, linked-more, none-linked}
-use Rattle.transitions.proofs.links.link_transitions.Statement.{statement}
-use Rattle.transitions.proofs.links.link_transitions.Tie as tie
+use Rattle.transition_links.specs.Links.{First, heads}
+use Rattle.transition_links.proofs.Linking.{LinkedFrom, linked, linked-more, none-linked}
+use Rattle.transition_links.proofs.links.link_transitions.Statement.{statement}
+use Rattle.transition_links.proofs.links.link_transitions.Tie as tie
 
 abbrev Inv-loop : tie.InvT-loop
 Inv-loop automaton count links₀ i₀ links i = (i ≤ count) × (count ≡ transitionCount automaton) × LinkedFrom automaton i links

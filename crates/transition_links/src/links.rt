@@ -4,7 +4,7 @@ ghost use Prim.Native.Nat.{_≤_};
 ghost use lib.ListN.{length};
 ghost use Rattle.terms.specs.Sheet.{transitionCount};
 ghost use Rattle.terms.specs.Check.{mostTransitions};
-ghost use Rattle.transitions.specs.Links.{Linked};
+ghost use Rattle.transition_links.specs.Links.{Linked};
 
 // Where the first transitions stand in the links, behind those of the transitions.
 pub const HEADS: usize = 255;
