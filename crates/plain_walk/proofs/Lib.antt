@@ -1,5 +1,2 @@
-pub mod Trees
-pub mod Passed
-pub mod Noted
-pub mod Reading
+pub mod Whole
 pub mod Outcome

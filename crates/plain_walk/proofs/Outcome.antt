@@ -8,9 +8,9 @@ use Rattle.terms.specs.Answer.{Answer, refused, answered, answer}
 use Rattle.terms.specs.Calls.{lentAfter, walkRefusal, walkMask, walkMasks}
 use Rattle.terms.proofs.Answer.{is-refused, is-answered}
 use Rattle.terms.proofs.Lent.{lent-kept, lent-written}
-use Rattle.plain_walk.specs.Private.Readers.{endOf, Noted}
-use Rattle.plain_walk.proofs.Passed.{walk-passed, some-node, whole-end}
-use Rattle.plain_walk.proofs.Noted.{noted-whole}
+use Rattle.subtree_masks.specs.Readers.{endOf, Noted}
+use Rattle.subtree_masks.proofs.Passed.{walk-passed}
+use Rattle.plain_walk.proofs.Whole.{some-node, whole-end, noted-whole}
 
 module _ (alphabet automaton tree entry : List ℕ) {r : ℕ} (e : r ≡ walkRefusal alphabet automaton tree (length entry)) where
   abbrev Outcome : Answer ℕ → List ℕ → Type 0

@@ -7,7 +7,8 @@ use denote.Ref.{now}
 use borrow.Author.Needs.{needs}
 use Rattle.terms.specs.Calls.{walkRefusal}
 use Rattle.terms.proofs.Sheet.Automaton.{automaton-passed}
-use Rattle.plain_walk.proofs.Passed.{WalkPassed, walk-passed, some-node}
+use Rattle.subtree_masks.proofs.Passed.{WalkPassed, walk-passed}
+use Rattle.plain_walk.proofs.Whole.{some-node}
 use Rattle.plain_walk.proofs.Outcome.{refuses, reads}
 use Rattle.plain_walk.proofs.walk.walk.Statement.{statement}
 use Rattle.plain_walk.proofs.walk.walk.Tie as tie

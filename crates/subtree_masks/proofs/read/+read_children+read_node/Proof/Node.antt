@@ -6,11 +6,11 @@ use borrow.Author.Needs.{needs}
 use lib.ListN.{length, getD, length-set}
 use denote.Ref.{now}
 use Rattle.terms.specs.Grammar.{terminalRank}
-use Rattle.plain_walk.proofs.Passed.{WalkPassed, walk-passed, rank-few, node-known, node-ready, children-there}
-use Rattle.plain_walk.proofs.Reading.{node-read}
-use Rattle.plain_walk.proofs.walk.read_node.Reads as read-node
-use Rattle.plain_walk.proofs.walk.+read_children+read_node.Lts-read_node as node-lts
-use Rattle.plain_walk.proofs.walk.+read_children+read_node.Proof.Measure.{node-at, node-claims}
+use Rattle.subtree_masks.proofs.Passed.{WalkPassed, walk-passed, rank-few, node-known, node-ready, children-there}
+use Rattle.subtree_masks.proofs.Reading.{node-read}
+use Rattle.subtree_masks.proofs.read.read_node.Reads as read-node
+use Rattle.subtree_masks.proofs.read.+read_children+read_node.Lts-read_node as node-lts
+use Rattle.subtree_masks.proofs.read.+read_children+read_node.Proof.Measure.{node-at, node-claims}
 
 module _ (t : ℕ) where
   abbrev entry : node-lts.After-rank2 (node-claims t) (node-at t) read-node.Post → node-lts.Start (node-claims t) (node-at t) read-node.Post

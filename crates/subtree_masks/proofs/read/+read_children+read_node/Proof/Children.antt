@@ -6,14 +6,14 @@ use lib.ListN.{length, take, length-set}
 use denote.Ref.{now}
 use Rattle.terms.specs.Tree.{preorders, count, firsts}
 use Rattle.terms.specs.Automaton.{masks}
-use Rattle.plain_walk.specs.Private.Readers.{Noted, treesFrom, endOf, masksFrom}
-use Rattle.plain_walk.proofs.Trees.{tree-there}
-use Rattle.plain_walk.proofs.Passed.{walk-passed}
-use Rattle.plain_walk.proofs.Noted.{noted-none}
-use Rattle.plain_walk.proofs.Reading.{child-read}
-use Rattle.plain_walk.proofs.walk.read_children.Reads as read-children
-use Rattle.plain_walk.proofs.walk.+read_children+read_node.Lts-read_children as children-lts
-use Rattle.plain_walk.proofs.walk.+read_children+read_node.Proof.Measure.{children-at, children-claims}
+use Rattle.subtree_masks.specs.Readers.{Noted, treesFrom, endOf, masksFrom}
+use Rattle.subtree_masks.proofs.Trees.{tree-there}
+use Rattle.subtree_masks.proofs.Passed.{walk-passed}
+use Rattle.subtree_masks.proofs.Noted.{noted-none}
+use Rattle.subtree_masks.proofs.Reading.{child-read}
+use Rattle.subtree_masks.proofs.read.read_children.Reads as read-children
+use Rattle.subtree_masks.proofs.read.+read_children+read_node.Lts-read_children as children-lts
+use Rattle.subtree_masks.proofs.read.+read_children+read_node.Proof.Measure.{children-at, children-claims}
 
 abbrev pub Inv-loop : children-lts.InvT-loop
 Inv-loop alphabet automaton links tree at children masks₀ sets₀ end₀ j₀ masks sets end j =

@@ -1,7 +1,7 @@
 -- What the walk lets through, and what its readers may use of it.
 use mathlib.Core.Path.{_≡_, refl, sym, _∙_}
 use mathlib.Core.Bool.{Bool, true, false}
-use mathlib.Core.List.{List, [], _∷_, append-nil}
+use mathlib.Core.List.{List, _∷_}
 use Prim.Native.Nat.{ℕ, suc, _+_, _≤_, _<_}
 use native.Mathlib.Numerals.{add-one}
 use native.Mathlib.Omega.{arith}
@@ -11,19 +11,19 @@ use lib.ListN.{length, getD, drop}
 use lib.Seq.{drop-cons}
 use borrow.Author.Tests.{ltb-true, ltb-false, lt-leb}
 use Rattle.terms.specs.Test.{all}
-use Rattle.terms.specs.Tree.{preorders, count, firsts, forestOf, Wholes, exactly, lacking, taking, wholes}
+use Rattle.terms.specs.Tree.{count, forestOf, Wholes, exactly, lacking, taking, wholes}
 use Rattle.terms.specs.Grammar.{terminalRank}
 use Rattle.terms.specs.Check.{isOne, isTree, alphabetRefusal, automatonRefusal, treeRefusal}
 use Rattle.terms.specs.Calls.{mostWalked, walkRefusal}
 use Rattle.terms.proofs.Test.{is-true, of-true, both-0, both-1}
 use Rattle.terms.proofs.Refusal.{none-before, no-row}
 use Rattle.terms.proofs.Scan.{all-part, wholes-part}
-use Rattle.terms.proofs.Tree.Whole.{read, forest-is-tree, preorder-tree}
+use Rattle.terms.proofs.Tree.Whole.{read}
 use Rattle.terms.proofs.Sheet.Grammar.{one-whole}
 use Rattle.terms.proofs.Sheet.Passed.{alphabet-passed, tree-passed}
 use Rattle.terms.proofs.Form.Bytes.{rank-le}
 use Rattle.transitions.specs.Step.{Ready}
-use Rattle.plain_walk.specs.Private.Readers.{Checked, treesFrom, endOf}
+use Rattle.subtree_masks.specs.Readers.{Checked, treesFrom}
 
 -- what the walk lets through
 pub record WalkPassed (alphabet automaton tree : List ℕ) (room : ℕ) : Type 0 where
@@ -43,12 +43,6 @@ walk-passed alphabet automaton tree room e =
 pub rank-few : (alphabet : List ℕ) → alphabetRefusal alphabet ≡ 0 → (f : ℕ) → terminalRank alphabet f ≤ 4
 rank-few alphabet passes f = rank-le alphabet (alphabet-passed alphabet passes .ranks) f
 
--- no symbols make no tree
-whole-some : (rank : ℕ → ℕ) (fs : List ℕ) → wholes rank fs ≡ exactly 1 → 0 < length fs
-unfolding wholes
-whole-some rank [] e = absurd (let z : _≡_ {A = ℕ} 0 1 = cc in omega arith)
-whole-some rank (f ∷ fs) e = omega arith
-
 -- a symbol takes no more trees than stand behind it
 taken-there : (rank : ℕ → ℕ) (f : ℕ) (fs : List ℕ) → (wholes rank (f ∷ fs) ≡ lacking → ⊥) → rank f ≤ count (forestOf rank fs)
 unfolding wholes taking
@@ -65,23 +59,13 @@ taken-there rank f fs some = go (wholes rank fs) refl
 -- a tree that passed its check
 module _ (alphabet tree : List ℕ) (passes : treeRefusal mostWalked alphabet tree ≡ 0) where
   -- it is of terminals, and whole
-  known-whole : (all (λ f. ltb f (length alphabet)) tree ≡ true) × (wholes (terminalRank alphabet) tree ≡ exactly 1)
+  pub known-whole : (all (λ f. ltb f (length alphabet)) tree ≡ true) × (wholes (terminalRank alphabet) tree ≡ exactly 1)
   unfolding isTree
   known-whole =
       let one = tree-passed mostWalked alphabet tree passes .one in
       let terminals = all (λ f. ltb f (length alphabet)) tree in
       let isWhole = isOne (wholes (terminalRank alphabet) tree) in
       (is-true terminals (both-0 terminals isWhole one), one-whole _ (is-true isWhole (both-1 terminals isWhole one)))
-
-  -- it has a node, and ends where the symbols end
-  pub some-node : 0 < length tree
-  some-node = whole-some (terminalRank alphabet) tree (known-whole .1)
-
-  pub whole-end : endOf alphabet tree 0 1 ≡ length tree
-  unfolding firsts preorders
-  whole-end =
-      let rank = terminalRank alphabet in
-      rw (forest-is-tree rank tree (known-whole .1), append-nil, preorder-tree rank tree (known-whole .1)) (omega arith)
 
   module _ (at : ℕ) (there : at < length tree) where
     -- a node is a terminal

@@ -1,13 +1,13 @@
--- `plain_walk::walk::read_node` and `read_children`, which call each other, meet their contracts.
-use Rattle.plain_walk.proofs.walk.+read_children+read_node.{statement}
-use Rattle.plain_walk.proofs.walk.+read_children+read_node.Tie.{close}
-use Rattle.plain_walk.proofs.walk.read_children.Reads as read-children
-use Rattle.plain_walk.proofs.walk.read_node.Reads as read-node
-use Rattle.plain_walk.proofs.walk.+read_children+read_node.Lts-read_children as children-lts
-use Rattle.plain_walk.proofs.walk.+read_children+read_node.Lts-read_node as node-lts
-use Rattle.plain_walk.proofs.walk.+read_children+read_node.Proof.Measure.{μ-children, μ-node, children-at, children-claims, node-at, node-claims}
-use Rattle.plain_walk.proofs.walk.+read_children+read_node.Proof.Children as children
-use Rattle.plain_walk.proofs.walk.+read_children+read_node.Proof.Node as node
+-- `subtree_masks::read::read_node` and `read_children`, which call each other, meet their contracts.
+use Rattle.subtree_masks.proofs.read.+read_children+read_node.{statement}
+use Rattle.subtree_masks.proofs.read.+read_children+read_node.Tie.{close}
+use Rattle.subtree_masks.proofs.read.read_children.Reads as read-children
+use Rattle.subtree_masks.proofs.read.read_node.Reads as read-node
+use Rattle.subtree_masks.proofs.read.+read_children+read_node.Lts-read_children as children-lts
+use Rattle.subtree_masks.proofs.read.+read_children+read_node.Lts-read_node as node-lts
+use Rattle.subtree_masks.proofs.read.+read_children+read_node.Proof.Measure.{μ-children, μ-node, children-at, children-claims, node-at, node-claims}
+use Rattle.subtree_masks.proofs.read.+read_children+read_node.Proof.Children as children
+use Rattle.subtree_masks.proofs.read.+read_children+read_node.Proof.Node as node
 mod Measure
 mod Children
 mod Node

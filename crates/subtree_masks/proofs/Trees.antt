@@ -14,7 +14,7 @@ use Rattle.terms.specs.Automaton.{Transition, step, mask, masks}
 use Rattle.terms.specs.Sheet.{transitionsOf}
 use Rattle.terms.specs.Calls.{walkMask}
 use Rattle.terms.proofs.Tree.Forest.{count-rest}
-use Rattle.plain_walk.specs.Private.Readers.{treesFrom, endOf, masksFrom}
+use Rattle.subtree_masks.specs.Readers.{treesFrom, endOf, masksFrom}
 
 -- Forests taken apart in two steps.
 

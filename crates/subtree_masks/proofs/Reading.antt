@@ -12,9 +12,9 @@ use Rattle.terms.specs.Automaton.{step}
 use Rattle.terms.specs.Sheet.{transitionsOf}
 use Rattle.terms.specs.Calls.{walkMask}
 use Rattle.transitions.specs.Step.{closedStep}
-use Rattle.plain_walk.specs.Private.Readers.{Noted, treesFrom, endOf, masksFrom}
-use Rattle.plain_walk.proofs.Trees.{end-more, end-past, end-node, mask-node, masks-child, tree-there}
-use Rattle.plain_walk.proofs.Noted.{noted-more, noted-node}
+use Rattle.subtree_masks.specs.Readers.{Noted, treesFrom, endOf, masksFrom}
+use Rattle.subtree_masks.proofs.Trees.{end-more, end-past, end-node, mask-node, masks-child, tree-there}
+use Rattle.subtree_masks.proofs.Noted.{noted-more, noted-node}
 
 module _ (alphabet automaton tree : List ℕ) (at : ℕ) where
   -- the node, whose n children are read

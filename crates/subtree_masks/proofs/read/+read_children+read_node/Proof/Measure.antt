@@ -5,12 +5,12 @@ use lib.ListN.{length}
 use denote.Ref.{now}
 use borrow.Fn.Kinds.{In}
 use borrow.Fn.PlainCycle.{Measures, is, falls, and}
-use Rattle.plain_walk.proofs.walk.read_children.Reads as read-children
-use Rattle.plain_walk.proofs.walk.read_children.Kinds as read-children-kinds
-use Rattle.plain_walk.proofs.walk.+read_children+read_node.Lts-read_children as children-lts
-use Rattle.plain_walk.proofs.walk.read_node.Reads as read-node
-use Rattle.plain_walk.proofs.walk.read_node.Kinds as read-node-kinds
-use Rattle.plain_walk.proofs.walk.+read_children+read_node.Lts-read_node as node-lts
+use Rattle.subtree_masks.proofs.read.read_children.Reads as read-children
+use Rattle.subtree_masks.proofs.read.read_children.Kinds as read-children-kinds
+use Rattle.subtree_masks.proofs.read.+read_children+read_node.Lts-read_children as children-lts
+use Rattle.subtree_masks.proofs.read.read_node.Reads as read-node
+use Rattle.subtree_masks.proofs.read.read_node.Kinds as read-node-kinds
+use Rattle.subtree_masks.proofs.read.+read_children+read_node.Lts-read_node as node-lts
 use Rattle.transitions.proofs.step.step_from.Reads as step-from
 
 abbrev pub μ-children : Measures 9 read-children-kinds.ps ℕ

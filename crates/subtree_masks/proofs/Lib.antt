@@ -1,0 +1,4 @@
+pub mod Trees
+pub mod Passed
+pub mod Noted
+pub mod Reading
