@@ -9,12 +9,12 @@ use Rattle.skeletons.specs.Skeleton.{Skeleton, Skeletons, shut, under, branch}
 use Rattle.skeletons.specs.Skeleton.{size}
 use Rattle.terms.proofs.Form.Valid.{length-end}
 use Rattle.form_bytes.specs.declared.rule.FormRule.{FormRule}
-use Rattle.cells.specs.Bytes.{fieldsFor, Holds}
+use Rattle.form_writing.specs.Bytes.{fieldsFor, Holds}
 use Rattle.cells.specs.Cells.{field, Stands, Row, closedFields, overFields, terminalFields}
 use Rattle.cells.specs.State.{RuleAdded, CellAdded, Room, Grown}
 use Rattle.cells.specs.declared.state.Free.{Free}
 use Rattle.cells.specs.declared.state.Made.{Made}
-use Rattle.cells.proofs.Held.{held-more}
+use Rattle.form_writing.proofs.Held.{held-more}
 use Rattle.cells.proofs.Standing.{stands-kept, row-kept, row-raised}
 
 -- a rule added

@@ -6,9 +6,9 @@ use native.Mathlib.Omega.{arith}
 use lib.ListN.{length, getD}
 use Rattle.skeletons.specs.Skeleton.{Skeleton, Skeletons, param, shut, under, branch, nil, cons, nth}
 use Rattle.skeletons.specs.Skeleton.{size}
-use Rattle.cells.specs.Bytes.{pasted, Kept}
+use Rattle.form_writing.specs.Bytes.{pasted, Kept}
 use Rattle.cells.specs.Cells.{field, childrenOf, Stands, Row, CellWritten}
-use Rattle.cells.proofs.Pasted.{pasted-at, pasted-keeps}
+use Rattle.form_writing.proofs.Pasted.{pasted-at, pasted-keeps}
 
 -- the fields of the cells below a number are kept
 module _ (exit entry : List ℕ) (count : ℕ) (same : (k : ℕ) → k < 7 * count → getD exit k 0 ≡ getD entry k 0) where

@@ -9,7 +9,7 @@ use Rattle.terms.specs.Check.{mostNodes}
 use Rattle.terms.specs.FormBytes.{unused}
 use Rattle.skeletons.specs.Skeleton.{Skeleton, Skeletons, param, shut, under, branch, nil, cons}
 use Rattle.skeletons.specs.Skeleton.{size}
-use Rattle.cells.specs.Bytes.{Kept}
+use Rattle.form_writing.specs.Bytes.{Kept}
 use Rattle.cells.specs.declared.cells.Cell.{Cell}
 use Rattle.cells.specs.declared.cells.Cell.the-variants.{Parameter, Closed, Over, Terminal}
 

@@ -6,7 +6,7 @@ use lib.ListN.{length, getD}
 use Rattle.terms.specs.FormBytes.{ruleLength}
 use Rattle.skeletons.specs.Make as model
 use Rattle.form_bytes.specs.declared.rule.FormRule.{FormRule}
-use Rattle.cells.specs.Bytes.{Holds, RuleWritten}
+use Rattle.form_writing.specs.Bytes.{Holds, RuleWritten}
 use Rattle.cells.specs.Cells.{mostCells, spaceLength, Stands, CellWritten, terminalFields}
 use Rattle.cells.specs.declared.state.Free.{Free}
 use Rattle.cells.specs.declared.state.Made.{Made}

@@ -7,7 +7,7 @@ use terms::Terminal;
 ghost use mathlib.Core.Path.{_≡_};
 ghost use Prim.Native.Nat.{_+_, _*_, _<_, _≤_};
 ghost use lib.ListN.{length, getD, replicate};
-ghost use Rattle.cells.specs.Bytes.{pasted};
+ghost use Rattle.form_writing.specs.Bytes.{pasted};
 ghost use Rattle.cells.specs.Cells.{mostCells, spaceLength, field, cellAt, isClosed, closedAt, countOf, childAt, Parameters, CellWritten, closedFields, overFields};
 ghost use Rattle.cells.specs.State.{CellAdded, TerminalAdded};
 

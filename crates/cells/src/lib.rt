@@ -1,4 +1,3 @@
 // Cells, each of which represents a skeleton tree, beside the rules of the form that are made.
 pub mod cells;
 pub mod state;
-pub mod write;

@@ -1,6 +1,6 @@
 // What form making adds to: the rules in the form's table and the cells, both of which only grow.
-use crate::write::write_rule;
 use form_bytes::rule::FormRule;
+use form_writing::write::write_rule;
 use terms::Rule;
 ghost use Prim.Native.Nat.{_+_, _*_, _<_, _≤_};
 ghost use lib.ListN.{length};

@@ -8,7 +8,7 @@ use Rattle.terms.specs.Form.{Rule, filled, composed}
 use Rattle.skeletons.specs.Skeleton.{Skeleton, param, shut, under, branch}
 use Rattle.skeletons.specs.Make.{contract-chain}
 use Rattle.form_bytes.specs.declared.rule.FormRule.{FormRule}
-use Rattle.cells.specs.Bytes.{fieldsWith, Holds}
+use Rattle.form_writing.specs.Bytes.{fieldsWith, Holds}
 use Rattle.cells.specs.Cells.{field, Stands, closedFields, overFields}
 use Rattle.cells.specs.State.{RuleAdded, CellAdded, Stood}
 use Rattle.contraction.specs.Chain.{ChainContracted}

@@ -11,7 +11,7 @@ use Rattle.terms.specs.Form.{Rule}
 use Rattle.skeletons.specs.Skeleton.{Skeleton, Skeletons, param, shut, under, branch, nil, cons}
 use Rattle.skeletons.specs.Make.{substitute, substitutes}
 use Rattle.skeletons.specs.Skeleton.{size, weight, weights}
-use Rattle.cells.specs.Bytes.{Holds}
+use Rattle.form_writing.specs.Bytes.{Holds}
 use Rattle.cells.specs.Cells.{spaceLength, field, childrenOf, Stands, Row}
 use Rattle.cells.specs.State.{Room, Grown, Stood}
 use Rattle.contraction.specs.Terminal.{Children, TerminalContracted}

@@ -14,7 +14,7 @@ use Rattle.skeletons.specs.Skeleton.{size}
 use Rattle.terms.specs.Form.{whole, pierced}
 use Rattle.terms.specs.FormBytes.{unused}
 use Rattle.form_bytes.specs.declared.rule.FormRule.{FormRule}
-use Rattle.cells.specs.Bytes.{fieldsWith, fieldsFor}
+use Rattle.form_writing.specs.Bytes.{fieldsWith, fieldsFor}
 use Rattle.cells.specs.Cells.{Stands, Row, isClosed, closedAt}
 use Rattle.cells.proofs.Reading.{closed-rule-is}
 use Rattle.contraction.specs.Terminal.{withChild, Sorted, Within, Opens, slotAt, fieldsOver}

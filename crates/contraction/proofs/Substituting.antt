@@ -8,7 +8,7 @@ use Rattle.terms.specs.Form.{Rule}
 use Rattle.skeletons.specs.Skeleton.{Skeleton, Skeletons, param, shut, under, branch}
 use Rattle.skeletons.specs.Make.{substitute}
 use Rattle.skeletons.specs.Skeleton.{size, weight}
-use Rattle.cells.specs.Bytes.{Holds}
+use Rattle.form_writing.specs.Bytes.{Holds}
 use Rattle.cells.specs.Cells.{field, Stands, Row}
 use Rattle.cells.specs.State.{Room, Grown, Stood}
 use Rattle.contraction.specs.Chain.{ChainContracted}

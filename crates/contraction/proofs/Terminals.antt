@@ -9,7 +9,7 @@ use Rattle.skeletons.specs.Skeleton.{Skeletons}
 use Rattle.skeletons.specs.Make.{Sort, closed, single, several, sort, contract-terminal-by, contract-terminal, contract-chain}
 use Rattle.skeletons.specs.Skeleton.{size}
 use Rattle.form_bytes.specs.declared.rule.FormRule.{FormRule}
-use Rattle.cells.specs.Bytes.{fieldsFor, Holds}
+use Rattle.form_writing.specs.Bytes.{fieldsFor, Holds}
 use Rattle.cells.specs.Cells.{Row, closedFields}
 use Rattle.cells.specs.State.{RuleAdded, CellAdded, TerminalAdded, Stood}
 use Rattle.contraction.specs.Chain.{ChainContracted}

@@ -6,7 +6,7 @@ use lib.ListN.{length}
 use Rattle.terms.specs.Form.{Rule}
 use Rattle.skeletons.specs.Skeleton.{Skeleton}
 use Rattle.skeletons.specs.Make.{contract-chain}
-use Rattle.cells.specs.Bytes.{Holds}
+use Rattle.form_writing.specs.Bytes.{Holds}
 use Rattle.cells.specs.Cells.{Stands}
 use Rattle.cells.specs.State.{Grown, Stood}
 use Rattle.cells.specs.declared.state.Free.{Free}

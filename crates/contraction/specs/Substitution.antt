@@ -8,7 +8,7 @@ use Rattle.skeletons.specs.Skeleton.{Skeleton, Skeletons, param, shut, under, b
 use Rattle.skeletons.specs.Make.{substitute, substitutes}
 use Rattle.skeletons.specs.Make as model
 use Rattle.skeletons.specs.Skeleton.{size, weight, weights}
-use Rattle.cells.specs.Bytes.{Holds}
+use Rattle.form_writing.specs.Bytes.{Holds}
 use Rattle.cells.specs.Cells.{countOf, childrenOf, Stands, Row}
 use Rattle.cells.specs.State.{Room, Grown, Stood}
 use Rattle.cells.specs.declared.state.Free.{Free}

@@ -11,7 +11,7 @@ use Rattle.skeletons.specs.Skeleton.{Skeletons}
 use Rattle.skeletons.specs.Make.{Sort, closed, single, several, sort, contract-terminal}
 use Rattle.skeletons.specs.Skeleton.{size}
 use Rattle.form_bytes.specs.declared.rule.FormRule.{FormRule}
-use Rattle.cells.specs.Bytes.{Holds}
+use Rattle.form_writing.specs.Bytes.{Holds}
 use Rattle.cells.specs.Cells.{closedAt, Row}
 use Rattle.cells.specs.State.{Grown, Stood}
 use Rattle.contraction.specs.declared.contract_terminal.Open.{Open}

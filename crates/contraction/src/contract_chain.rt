@@ -13,7 +13,7 @@ use terms::Terminal;
 ghost use mathlib.Core.Path.{_≡_};
 ghost use mathlib.Core.List.{_∷_, []};
 ghost use Prim.Native.Nat.{_<_};
-ghost use Rattle.cells.specs.Bytes.{fieldsWith};
+ghost use Rattle.form_writing.specs.Bytes.{fieldsWith};
 ghost use Rattle.cells.specs.State.{Room};
 ghost use Rattle.contraction.specs.Chain.{ChainContracted};
 

@@ -14,11 +14,11 @@ use Rattle.terms.proofs.Form.Written.{only-bytes}
 use Rattle.skeletons.specs.Form.{madeForm}
 use Rattle.skeletons.proofs.Result.{scanned-form}
 use Rattle.skeletons.proofs.Bytes.{made-from, made-bytes}
-use Rattle.cells.specs.Bytes.{Holds, HeadWritten}
+use Rattle.form_writing.specs.Bytes.{Holds, HeadWritten}
 use Rattle.right_sides.specs.Rules.{Grammar, modelOf, RulesMade}
 use Rattle.making.specs.Private.Read.{FormWritten}
 use Rattle.right_sides.specs.declared.rules.Whole.{Whole}
-use Rattle.cells.proofs.Held.{held-kept}
+use Rattle.form_writing.proofs.Held.{held-kept}
 
 -- the part behind the head is the table
 pub table-part : (form : List ℕ) → take (length form - headLength) (drop headLength form) ≡ tableOf form

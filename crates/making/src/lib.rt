@@ -1,9 +1,9 @@
 // Making a one-hole form from a sheet.
 
-use cells::write::write_head;
 use checks::limits::CONTENTS;
 use form_bytes::layout::HEAD;
 use form_bytes::layout::RULE;
+use form_writing::write::write_head;
 use right_sides::rules::make_rules;
 use sheets::sheet::Layout;
 use sheets::sheet::Reading;

@@ -21,14 +21,14 @@ use Rattle.skeletons.proofs.Result.{scanned-form, bound-linear}
 use Rattle.grammars.specs.Cursor.{spanAt, ruleIn}
 use Rattle.grammars.specs.declared.cursor.Span.{Span}
 use Rattle.grammars.proofs.Body.{nodes-long, Standing, standing, inside-body, Passed, none-passed, rule-passed}
-use Rattle.cells.specs.Bytes.{Holds}
+use Rattle.form_writing.specs.Bytes.{Holds}
 use Rattle.cells.specs.Cells.{mostCells, spaceLength, Stands, closedAt, Parameters}
 use Rattle.cells.specs.State.{Room, Grown, Stood}
 use Rattle.right_sides.specs.Side.{Known, sideBound, RightSide, SideMade}
 use Rattle.right_sides.specs.Rules.{Grammar, modelOf, RulesMade}
 use Rattle.cells.specs.declared.state.Free.{Free}
 use Rattle.cells.specs.declared.state.Made.{Made}
-use Rattle.cells.proofs.Held.{held-none}
+use Rattle.form_writing.proofs.Held.{held-none}
 use Rattle.cells.proofs.Reading.{closed-rule-is}
 use Rattle.cells.proofs.Adding.{grown-stands}
 use Rattle.right_sides.proofs.Lower.{old-skeleton, new-skeleton, lower-bounded, lower-light}

@@ -12,7 +12,7 @@ use Rattle.terms.specs.FormBytes.{ruleLength}
 use Rattle.skeletons.specs.Skeleton.{shut}
 use Rattle.skeletons.specs.Make.{Form, skeletonOf}
 use Rattle.skeletons.specs.Scan.{scanned}
-use Rattle.cells.specs.Bytes.{Holds}
+use Rattle.form_writing.specs.Bytes.{Holds}
 use Rattle.right_sides.specs.declared.rules.Whole.{Whole}
 
 -- the rules of a body are a grammar over the alphabet, and the table has room for its form's rules

@@ -11,7 +11,7 @@ use Rattle.skeletons.specs.Skeleton.{Skeleton, param, nth}
 use Rattle.skeletons.specs.Make as model
 use Rattle.skeletons.specs.Scan.{scan}
 use Rattle.skeletons.specs.Skeleton.{weight}
-use Rattle.cells.specs.Bytes.{Holds}
+use Rattle.form_writing.specs.Bytes.{Holds}
 use Rattle.cells.specs.Cells.{Stands}
 use Rattle.cells.specs.State.{Room, Grown, Stood}
 use Rattle.contraction.specs.Terminal.{Children, TerminalContracted}

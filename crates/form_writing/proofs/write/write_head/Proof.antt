@@ -1,9 +1,9 @@
--- `cells::write::write_head` meets its contract: the head's bytes are copied in at the front.
+-- `form_writing::write::write_head` meets its contract: the head's bytes are copied in at the front.
 use borrow.Author.Needs.{needs}
 use denote.Ref.{now}
-use Rattle.cells.proofs.Pasted.{head-written}
-use Rattle.cells.proofs.write.write_head.Statement.{statement}
-use Rattle.cells.proofs.write.write_head.Tie as tie
+use Rattle.form_writing.proofs.Pasted.{head-written}
+use Rattle.form_writing.proofs.write.write_head.Statement.{statement}
+use Rattle.form_writing.proofs.write.write_head.Tie as tie
 
 head-bytes-requires : tie.Need-head-bytes-requires
 head-bytes-requires c κs = search needs

@@ -8,7 +8,7 @@ ghost use mathlib.Core.Path.{_≡_};
 ghost use Prim.Native.Nat.{_+_, _*_, _≤_};
 ghost use lib.ListN.{length};
 ghost use Rattle.terms.specs.FormBytes.{headLength, ruleLength, headBytes};
-ghost use Rattle.cells.specs.Bytes.{bytesOf, RuleWritten, HeadWritten};
+ghost use Rattle.form_writing.specs.Bytes.{bytesOf, RuleWritten, HeadWritten};
 
 // The bytes of a rule.
 fn rule_bytes(rule: FormRule) -> [u8; RULE]

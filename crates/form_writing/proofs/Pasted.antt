@@ -7,7 +7,7 @@ use lib.ListN.{length, getD, take, drop, length-append, length-drop, List·getD-
 use lib.Seq.{length-take-le, getD-take, getD-drop, getD-append-add}
 use Rattle.terms.specs.FormBytes.{headLength, ruleLength, headBytes}
 use Rattle.form_bytes.specs.declared.rule.FormRule.{FormRule}
-use Rattle.cells.specs.Bytes.{pasted, bytesOf, Kept, RuleWritten, HeadWritten}
+use Rattle.form_writing.specs.Bytes.{pasted, bytesOf, Kept, RuleWritten, HeadWritten}
 
 module _ (at : ℕ) (bytes l : List ℕ) (fits : at + length bytes ≤ length l) where
   -- its place in the parts of the new list

@@ -9,7 +9,7 @@ use lib.ListN.{length, getD}
 use Rattle.terms.specs.Form.{Rule, ruleAt}
 use Rattle.terms.specs.FormBytes.{ruleLength, ruleByte, ruleBytes}
 use Rattle.terms.proofs.Form.Valid.{at-end, length-end, later-append}
-use Rattle.cells.specs.Bytes.{fieldsFor, Holds, RuleWritten}
+use Rattle.form_writing.specs.Bytes.{fieldsFor, Holds, RuleWritten}
 
 -- the bytes of the rules are kept
 pub held-kept : (exit entry : List ℕ) (rules : List Rule) → Holds entry rules

@@ -1,9 +1,9 @@
--- `cells::write::write_rule` meets its contract: the rule's bytes are copied in at its place.
+-- `form_writing::write::write_rule` meets its contract: the rule's bytes are copied in at its place.
 use borrow.Author.Needs.{needs}
 use denote.Ref.{now}
-use Rattle.cells.proofs.Pasted.{rule-written}
-use Rattle.cells.proofs.write.write_rule.Statement.{statement}
-use Rattle.cells.proofs.write.write_rule.Tie as tie
+use Rattle.form_writing.proofs.Pasted.{rule-written}
+use Rattle.form_writing.proofs.write.write_rule.Statement.{statement}
+use Rattle.form_writing.proofs.write.write_rule.Tie as tie
 
 rule-bytes-requires : tie.Need-rule-bytes-requires
 rule-bytes-requires c κs = search needs

@@ -1,0 +1,2 @@
+// Writing a one-hole form: the rules of its table, and its head.
+pub mod write;
