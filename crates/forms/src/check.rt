@@ -1,8 +1,8 @@
 // The check of a form against an alphabet, for any bytes.
 use checks::alphabet;
 use form_bytes::layout;
-use rule_checks::calls_lower;
 use rule_checks::rule_fits;
+use slot_checks::calls_lower;
 use terms::Rule;
 ghost use mathlib.Core.Path.{_≡_};
 ghost use Prim.Native.Nat.{_*_, _≤_};

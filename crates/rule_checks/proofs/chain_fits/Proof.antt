@@ -1,7 +1,7 @@
 -- `rule_checks::chain_fits` meets its contract: the tests are those of the definition, in its order.
 use borrow.Author.Needs.{needs}
 use borrow.Author.Tests.{eq-eqb, ne-eqb}
-use Rattle.rule_checks.proofs.Laws.{failed, passed}
+use Rattle.slot_checks.proofs.Laws.{failed, passed}
 use Rattle.rule_checks.proofs.chain_fits.Statement.{statement}
 use Rattle.rule_checks.proofs.chain_fits.Tie as tie
 

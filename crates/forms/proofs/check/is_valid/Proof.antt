@@ -7,7 +7,7 @@ use borrow.Author.Needs.{needs}
 use borrow.Author.Tests.{lt-ltb, le-ltb, eq-eqb, ne-eqb}
 use lib.ListN.{length, length-drop}
 use Rattle.terms.specs.FormBytes.{headLength, ruleLength, formLength, ruleCount, validFor}
-use Rattle.rule_checks.proofs.Laws.{failed, passed}
+use Rattle.slot_checks.proofs.Laws.{failed, passed}
 use Rattle.forms.proofs.check.is_valid.Statement.{statement}
 use Rattle.forms.proofs.check.is_valid.Tie as tie
 

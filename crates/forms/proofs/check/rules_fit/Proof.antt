@@ -5,7 +5,7 @@ use native.Mathlib.Omega.{arith}
 use Rattle.terms.specs.Test.{every}
 use Rattle.terms.specs.FormBytes.{ruleFits}
 use Rattle.terms.proofs.Scan.{every-fails, every-passes, every-done}
-use Rattle.rule_checks.proofs.Laws.{failed, passed}
+use Rattle.slot_checks.proofs.Laws.{failed, passed}
 use Rattle.forms.proofs.check.rules_fit.Statement.{statement}
 use Rattle.forms.proofs.check.rules_fit.Tie as tie
 

@@ -1,13 +1,13 @@
--- `rule_checks::slots_fit` meets its contract. The invariant: all slots fit if those below j do.
+-- `slot_checks::slots_fit` meets its contract. The invariant: all slots fit if those below j do.
 use mathlib.Core.Path.{_≡_, refl, sym}
 use Prim.Native.Nat.{_≤_}
 use native.Mathlib.Omega.{arith}
 use Rattle.terms.specs.Test.{every}
 use Rattle.terms.specs.FormBytes.{slotFits}
 use Rattle.terms.proofs.Scan.{every-fails, every-passes, every-done}
-use Rattle.rule_checks.proofs.Laws.{failed, passed}
-use Rattle.rule_checks.proofs.slots_fit.Statement.{statement}
-use Rattle.rule_checks.proofs.slots_fit.Tie as tie
+use Rattle.slot_checks.proofs.Laws.{failed, passed}
+use Rattle.slot_checks.proofs.slots_fit.Statement.{statement}
+use Rattle.slot_checks.proofs.slots_fit.Tie as tie
 
 abbrev Inv-loop : tie.InvT-loop
 Inv-loop table rule rank hole j₀ j = (j ≤ 4) × (every 4 (slotFits table (rule .0) rank hole) ≡ every j (slotFits table (rule .0) rank hole))

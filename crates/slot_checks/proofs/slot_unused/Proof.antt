@@ -1,7 +1,7 @@
--- `rule_checks::slot_unused` meets its contract: what is compared is the slot.
+-- `slot_checks::slot_unused` meets its contract: what is compared is the slot.
 use borrow.Author.Needs.{needs}
-use Rattle.rule_checks.proofs.slot_unused.Statement.{statement}
-use Rattle.rule_checks.proofs.slot_unused.Tie as tie
+use Rattle.slot_checks.proofs.slot_unused.Statement.{statement}
+use Rattle.slot_checks.proofs.slot_unused.Tie as tie
 
 slot-of-requires : tie.Need-slot-of-requires
 slot-of-requires c κs = search needs

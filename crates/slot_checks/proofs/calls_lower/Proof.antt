@@ -1,8 +1,8 @@
--- `rule_checks::calls_lower` meets its contract: the kind is read only of a rule below the bound, as the definition tests it.
+-- `slot_checks::calls_lower` meets its contract: the kind is read only of a rule below the bound, as the definition tests it.
 use borrow.Author.Needs.{needs}
 use borrow.Author.Tests.{lt-ltb, le-ltb}
-use Rattle.rule_checks.proofs.calls_lower.Statement.{statement}
-use Rattle.rule_checks.proofs.calls_lower.Tie as tie
+use Rattle.slot_checks.proofs.calls_lower.Statement.{statement}
+use Rattle.slot_checks.proofs.calls_lower.Tie as tie
 
 cast-if1 : tie.Need-cast-if1
 cast-if1 c = search needs

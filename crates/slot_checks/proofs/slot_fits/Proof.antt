@@ -1,10 +1,10 @@
--- `rule_checks::slot_fits` meets its contract: the tests are those of the definition, each for the case that it rules out.
+-- `slot_checks::slot_fits` meets its contract: the tests are those of the definition, each for the case that it rules out.
 use Prim.Native.Nat.{suc}
 use native.Mathlib.Omega.{arith}
 use borrow.Author.Needs.{needs}
 use borrow.Author.Tests.{lt-ltb, le-ltb, eq-eqb, ne-eqb}
-use Rattle.rule_checks.proofs.slot_fits.Statement.{statement}
-use Rattle.rule_checks.proofs.slot_fits.Tie as tie
+use Rattle.slot_checks.proofs.slot_fits.Statement.{statement}
+use Rattle.slot_checks.proofs.slot_fits.Tie as tie
 
 slot-unused-requires : tie.Need-slot-unused-requires
 slot-unused-requires c κs = search needs

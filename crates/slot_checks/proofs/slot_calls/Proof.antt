@@ -1,7 +1,7 @@
--- `rule_checks::slot_calls` meets its contract: what is called is the slot.
+-- `slot_checks::slot_calls` meets its contract: what is called is the slot.
 use borrow.Author.Needs.{needs}
-use Rattle.rule_checks.proofs.slot_calls.Statement.{statement}
-use Rattle.rule_checks.proofs.slot_calls.Tie as tie
+use Rattle.slot_checks.proofs.slot_calls.Statement.{statement}
+use Rattle.slot_checks.proofs.slot_calls.Tie as tie
 
 cast-calls-lower : tie.Need-cast-calls-lower
 cast-calls-lower c = search needs
