@@ -17,7 +17,7 @@ use Rattle.form_bytes.specs.declared.rule.FormRule.{FormRule}
 use Rattle.form_writing.specs.Bytes.{fieldsWith, fieldsFor}
 use Rattle.cells.specs.Cells.{Stands, Row, isClosed, closedAt}
 use Rattle.cells.proofs.Reading.{closed-rule-is}
-use Rattle.contraction.specs.Terminal.{withChild, Sorted, Within, Opens, slotAt, fieldsOver}
+use Rattle.contraction.specs.Terminal.{withChild, Sorted, OpenBelow, Opens, slotAt, fieldsOver}
 use Rattle.contraction.specs.declared.contract_terminal.Open.{Open}
 use Rattle.contraction.specs.declared.contract_terminal.Open.the-variants.{Nowhere, At, Several}
 
@@ -54,7 +54,7 @@ place-sorted cells x from o (branch f ss) t p h = rw (p .0) (front-sorted (branc
 
 -- which of the children from a place on are open
 pub record SortedFrom (cells : List ℕ) (rank : ℕ) (xs : List ℕ) (from : ℕ) (o : Open) : Type 0 where
-  pub within : Within rank o
+  pub within : OpenBelow rank o
   pub sorted : (limit : ℕ) (ss : Skeletons) → Row cells limit (drop from xs) ss → size ss ≡ rank - from → Sorted from o (sort ss)
 
 pub sorted-none : (cells : List ℕ) (rank : ℕ) (xs : List ℕ) → SortedFrom cells rank xs rank Nowhere
@@ -69,7 +69,7 @@ sorted-all cells rank xs from o z h =
     let g : SortedFrom cells rank xs 0 o = subst (λ (n : ℕ). SortedFrom cells rank xs n o) z h in
     record { within = h .within; sorted = λ limit ss p e. g .sorted limit ss p (omega arith) }
 
-within-more : (rank place : ℕ) (b : Bool) (o : Open) → place < rank → Within rank o → Within rank (withChild b place o)
+within-more : (rank place : ℕ) (b : Bool) (o : Open) → place < rank → OpenBelow rank o → OpenBelow rank (withChild b place o)
 within-more rank place true o h w = w
 within-more rank place false Nowhere h w = h
 within-more rank place false (At p) h w = tt

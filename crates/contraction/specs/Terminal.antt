@@ -45,14 +45,14 @@ Sorted from Several (single ls s rs) = ⊥
 Sorted from Several several = Unit {0}
 
 -- an open child is one of so many
-abbrev pub Within : ℕ → Open → Type 0
-Within rank Nowhere = Unit {0}
-Within rank (At p) = p < rank
-Within rank Several = Unit {0}
+abbrev pub OpenBelow : ℕ → Open → Type 0
+OpenBelow rank Nowhere = Unit {0}
+OpenBelow rank (At p) = p < rank
+OpenBelow rank Several = Unit {0}
 
 -- which of the cells are open
 pub record Opens (cells : List ℕ) (rank : ℕ) (xs : List ℕ) (r : Open) : Type 0 where
-  pub within : Within rank r
+  pub within : OpenBelow rank r
   pub sorted : (limit : ℕ) (ss : Skeletons) → Row cells limit xs ss → size ss ≡ rank → Sorted 0 r (sort ss)
 
 -- slot j of a terminal's rule over cells

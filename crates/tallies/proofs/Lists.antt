@@ -14,7 +14,7 @@ use Rattle.terms.specs.Answer.{refused, answered, answer}
 use Rattle.tallies.specs.Tally.{counts, isFull, higher}
 use Rattle.marking.specs.Marking.{MarkAnswer}
 use Rattle.tallies.specs.Counted.{counted}
-use Rattle.tallies.specs.Lists.{Call, answerTo, tallyAfter, finalTally, answers, isAccepted, isDeclined, isTurnedAway, isUncounted, howMany, zeroTally, Fits, Tallied}
+use Rattle.tallies.specs.Lists.{Call, answerTo, tallyAfter, finalTally, answers, isAccepted, isDeclined, isTurnedAway, isUncounted, howMany, zeroTally, CountsFit, Tallied}
 use Rattle.tallies.proofs.Full.{free, refused-full}
 use Rattle.tallies.proofs.Numbers.{Number, marking-number}
 
@@ -89,25 +89,25 @@ ways-sum t (call ∷ calls) = omega (arith, ways-sum (tallyAfter t call) calls, 
 
 -- No count passes the largest.
 
-module _ (t : Tally) (f : Fits t) where
-  moved-fits : isFull t ≡ false → (m : MarkAnswer) → Fits (counted m t)
+module _ (t : Tally) (f : CountsFit t) where
+  moved-fits : isFull t ≡ false → (m : MarkAnswer) → CountsFit (counted m t)
   moved-fits e (answered (accepted, mask)) = record { accepted = omega (arith, f .accepted, free t e .accepted); declined = omega (arith, f .declined); away = omega (arith, f .away) }
   moved-fits e (answered (declined, mask)) = record { accepted = omega (arith, f .accepted); declined = omega (arith, f .declined, free t e .declined); away = omega (arith, f .away) }
   moved-fits e (refused n) = go (outside 1 16 n)
     where
-      go : (b : Bool) → Fits (cond b t (higher t 0 0 1))
+      go : (b : Bool) → CountsFit (cond b t (higher t 0 0 1))
       go true = f
       go false = record { accepted = omega (arith, f .accepted); declined = omega (arith, f .declined); away = omega (arith, f .away, free t e .away) }
 
   -- a marking, whatever its sheet and the slices that are lent
-  pub call-fits : (call : Call) → Fits (tallyAfter t call)
+  pub call-fits : (call : Call) → CountsFit (tallyAfter t call)
   call-fits call = go (isFull t) refl
     where
-      go : (b : Bool) → isFull t ≡ b → Fits (tallyAfter t call)
+      go : (b : Bool) → isFull t ≡ b → CountsFit (tallyAfter t call)
       go true e = rw (refused-full t (call .sheet) (call .room) (call .numbers) e) f
       go false e = moved-fits e (answerTo t call)
 
-calls-fit : (t : Tally) → Fits t → (calls : List Call) → Fits (finalTally t calls)
+calls-fit : (t : Tally) → CountsFit t → (calls : List Call) → CountsFit (finalTally t calls)
 unfolding finalTally
 calls-fit t f [] = f
 calls-fit t f (call ∷ calls) = calls-fit (tallyAfter t call) (call-fits t f call) calls

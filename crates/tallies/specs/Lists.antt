@@ -73,7 +73,7 @@ abbrev pub zeroTally : Tally
 zeroTally = record { accepted = 0; declined = 0; «turned_away» = 0 }
 
 -- no count is above 4,294,967,295 (01 Refusals, 25)
-pub record Fits (t : Tally) : Type 0 where
+pub record CountsFit (t : Tally) : Type 0 where
   pub accepted : t .accepted ≤ 2 ^ 32 - 1
   pub declined : t .declined ≤ 2 ^ 32 - 1
   pub away : t .«turned_away» ≤ 2 ^ 32 - 1
@@ -85,4 +85,4 @@ pub record Tallied (calls : List Call) : Type 0 where
   pub away : finalTally zeroTally calls .«turned_away» ≡ howMany isTurnedAway (answers zeroTally calls)
   pub sum : finalTally zeroTally calls .accepted + finalTally zeroTally calls .declined + finalTally zeroTally calls .«turned_away»
       ≡ howMany (λ mark. not (isUncounted mark)) (answers zeroTally calls)
-  pub fits : Fits (finalTally zeroTally calls)
+  pub fits : CountsFit (finalTally zeroTally calls)
