@@ -5,7 +5,7 @@ use form_bytes::layout;
 use sizing::size;
 use terms::Rule;
 use terms::answers::LengthAnswer;
-use writing::write::write_rule;
+use writing::write::write_tree;
 ghost use mathlib.Core.Path.{_≡_};
 ghost use Prim.Native.Nat.{_*_, _<_, _≤_};
 ghost use lib.ListN.{length};
@@ -39,7 +39,7 @@ fn unfold_with(
     if tree.len() < size {
         return LengthAnswer::Refused(20);
     }
-    write_rule(alphabet, table, known, start, tree, 0, 0);
+    write_tree(alphabet, table, known, start, tree);
     counts::copy_counts(known, counts::COUNTS * rules, counts);
     LengthAnswer::Written(size)
 }

@@ -1,6 +1,6 @@
 -- What a rule of a valid table has of its own, by its kind.
 use mathlib.Core.Logic.{_⊎_, inl, inr}
-use mathlib.Core.Path.{_≡_, sym, _∙_, ap}
+use mathlib.Core.Path.{_≡_, refl, sym, _∙_, ap}
 use mathlib.Core.List.{List, [], _∷_, _++_, append-assoc}
 use Prim.Native.Nat.{ℕ, suc, _+_, _-_, _≤_, _<_}
 use native.Mathlib.Nat.{eq-or-lt-of-le}
@@ -135,16 +135,17 @@ module _ (alphabet table : List ℕ) (i : ℕ) where
     abbrev slot : ℕ → ℕ
     slot = slotOf table i
 
-    pub chain : 2 ≤ ruleByte table i 0 → Chain (slot 0) (slot 1)
-    chain two = go (eq-or-lt-of-le two)
+    pub chain : {b c : ℕ} → b ≡ slot 0 → c ≡ slot 1 → 2 ≤ ruleByte table i 0 → Chain b c
+    chain e e′ two = rw (e, e′) (go (eq-or-lt-of-le two))
       where
         go : (2 ≡ ruleByte table i 0) ⊎ (2 < ruleByte table i 0) → Chain (slot 0) (slot 1)
         go (inl e) = filled-chain (slot 0) (slot 1) (is-filled alphabet table (known .valid) i below (sym e))
         go (inr g) = composed-chain (slot 0) (slot 1) (is-composed alphabet table (known .valid) i below g)
 
-    pub whole-node : ruleByte table i 0 ≡ 0 → Whole terminal rank
-    whole-node kind =
+    pub whole-node : {f n : ℕ} → f ≡ terminal → n ≡ terminalRank alphabet f → ruleByte table i 0 ≡ 0 → Whole f n
+    whole-node e e′ kind =
         let is = rw (← slots-all slot rank) at (is-whole alphabet table (known .valid) i below kind) in
+        rw (e′, e)
         record {
           few = rank-low alphabet table (known .valid) terminal;
           slots = names _ is .0;
@@ -152,10 +153,11 @@ module _ (alphabet table : List ℕ) (i : ℕ) where
           last = after-is _ is;
         }
 
-    pub pierced-node : ruleByte table i 0 ≡ 1 → Pierced terminal rank hole
-    pierced-node kind =
+    pub pierced-node : {f n h : ℕ} → f ≡ terminal → n ≡ terminalRank alphabet f → h ≡ hole → ruleByte table i 0 ≡ 1 → Pierced f n h
+    pierced-node e e′ e″ kind =
         let is = rw (← slots-all slot (hole - 1)) at (is-pierced alphabet table (known .valid) i below kind) in
         let (some, within) = hole-within alphabet table (known .valid) i below kind in
+        rw (e′, e, e″)
         record {
           few = rank-low alphabet table (known .valid) terminal;
           some = some;
@@ -171,8 +173,8 @@ module _ (alphabet table : List ℕ) (i : ℕ) where
     node-first few = go (eq-or-lt-of-le few)
       where
         go : (suc (ruleByte table i 0) ≡ 2) ⊎ (suc (ruleByte table i 0) < 2) → (rest : List ℕ) × (symbolsBefore (value i) ≡ terminal ∷ rest)
-        go (inl e) = (_, pierced-node (omega arith) .first)
-        go (inr h) = (_, whole-node (omega arith) .first)
+        go (inl e) = (_, pierced-node refl refl refl (omega arith) .first)
+        go (inr h) = (_, whole-node refl refl (omega arith) .first)
 
     pub node-some : ruleByte table i 0 < 2 → 0 < length (symbolsBefore (value i))
     node-some few = let (rest, first) = node-first few in rw first (omega arith)

@@ -33,7 +33,7 @@ module _ {alphabet table counts : List ℕ} (known : CountedTable alphabet table
     where
       go : ((b : ℕ) → b < i → 0 < own b) → (ruleByte table i 0 < 2) ⊎ (2 ≤ ruleByte table i 0) → 0 < own i
       go lower (inl few) = omega (arith, node-some _ _ _ _ known below few)
-      go lower (inr two) = let both = chain _ _ _ _ known below two in omega (arith, both .long, lower _ (both .root .below))
+      go lower (inr two) = let both = chain _ _ _ _ known below refl refl two in omega (arith, both .long, lower _ (both .root .below))
 
   -- so a rule of kind 2 or 3, which has those of two rules, has more than one
   single-first : (i : ℕ) → i < tableCount table → own i ≡ 1 → (rest : List ℕ) × (symbolsBefore (valueIn alphabet table i) ≡ ruleByte table i 1 ∷ rest)
@@ -42,7 +42,7 @@ module _ {alphabet table counts : List ℕ} (known : CountedTable alphabet table
       go : (ruleByte table i 0 < 2) ⊎ (2 ≤ ruleByte table i 0) → (rest : List ℕ) × (symbolsBefore (valueIn alphabet table i) ≡ ruleByte table i 1 ∷ rest)
       go (inl few) = node-first _ _ _ _ known below few
       go (inr two) =
-          let both = chain _ _ _ _ known below two in
+          let both = chain _ _ _ _ known below refl refl two in
           let root = own-some i _ (both .root .below) (omega (arith, both .root .below)) in
           let inner = own-some i _ (both .inner .below) (omega (arith, both .inner .below)) in
           absurd (omega (arith, both .long))

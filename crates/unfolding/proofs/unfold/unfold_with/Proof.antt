@@ -45,10 +45,10 @@ room c =
     omega arith
 
 -- the tree is written, and the counts are yet to be copied
-abbrev wrote : tie.After-copy-counts-arg → tie.After-write-rule
+abbrev wrote : tie.After-copy-counts-arg → tie.After-write-tree
 wrote c = c .before .before .before
 
-abbrev fits : tie.After-write-rule → tie.Else1
+abbrev fits : tie.After-write-tree → tie.Else1
 fits c = c .before .before .before
 
 count-nodes-requires : tie.Need-count-nodes-requires
@@ -63,8 +63,8 @@ same-length c = search needs
 returns : tie.Need-returns
 returns c = let a = begin (counting (c .before)) .args in longer _ _ _ (a .counts .now) _ (omega (arith, size-capped (c .before)))
 
-write-rule-requires : tie.Need-write-rule-requires
-write-rule-requires c κs =
+write-tree-requires : tie.Need-write-tree-requires
+write-tree-requires c κs =
     let else = c .before .before in
     let call = counting (else .before) in
     (known call, start-room _ _ _ (start-below (begin call)) _ (room else))
@@ -95,7 +95,7 @@ returns-2 c =
     let call = counting (else .before) in
     let (v, n, low, enough, work) = begin call .pre in
     writes _ _ _ _ _ v _ _ _ _ n (room else) (size-exact else)
-    (tree .write-rule .ensures ∙ start-written _ _ _ _ (room else))
+    (tree .write-tree .ensures ∙ start-written _ _ _ _ (room else))
     (copied .copy-counts .ensures ∙ counts-copied (known call) _ _ n)
 
 pub unfold-with-spec : {M : Type 1} → statement M
@@ -106,7 +106,7 @@ unfold-with-spec =
     own-of-requires
     same-length
     returns
-    write-rule-requires
+    write-tree-requires
     mul-copy-counts
     copy-counts-requires
     same-length-2

@@ -20,33 +20,33 @@ use Rattle.counting.proofs.counts.before_of.Reads as before-of
 use Rattle.counting.proofs.counts.own_of.Reads as own-of
 use Rattle.checks.proofs.alphabet.rank_of.Reads as rank-of
 
-abbrev pub μ-part : Measures 4 write-part-kinds.ps ℕ
+abbrev pub μ-part : Measures 7 write-part-kinds.ps ℕ
 μ-part κs a = 3 * a .1 .1 .1 .0 .0 + 2
 
-abbrev pub μ-rule : Measures 4 write-rule-kinds.ps ℕ
+abbrev pub μ-rule : Measures 7 write-rule-kinds.ps ℕ
 μ-rule κs a = 3 * a .1 .1 .1 .0 .0 + 1
 
-abbrev pub μ-slots : Measures 4 write-slots-kinds.ps ℕ
+abbrev pub μ-slots : Measures 7 write-slots-kinds.ps ℕ
 μ-slots κs a = 3 * a .1 .1 .1 .0 .0
 
 module _ (t : ℕ) where
-  abbrev pub part-at : In 4 write-part-kinds.ps
-  part-at = and 4 write-part-kinds.ps (is 4 write-part-kinds.ps μ-part t) write-part.Pre
+  abbrev pub part-at : In 7 write-part-kinds.ps
+  part-at = and 7 write-part-kinds.ps (is 7 write-part-kinds.ps μ-part t) write-part.Pre
 
-  abbrev pub part-below : In 4 write-part-kinds.ps
-  part-below = and 4 write-part-kinds.ps (falls 4 write-part-kinds.ps _<_ μ-part t) write-part.Pre
+  abbrev pub part-below : In 7 write-part-kinds.ps
+  part-below = and 7 write-part-kinds.ps (falls 7 write-part-kinds.ps _<_ μ-part t) write-part.Pre
 
-  abbrev pub rule-at : In 4 write-rule-kinds.ps
-  rule-at = and 4 write-rule-kinds.ps (is 4 write-rule-kinds.ps μ-rule t) write-rule.Pre
+  abbrev pub rule-at : In 7 write-rule-kinds.ps
+  rule-at = and 7 write-rule-kinds.ps (is 7 write-rule-kinds.ps μ-rule t) write-rule.Pre
 
-  abbrev pub rule-below : In 4 write-rule-kinds.ps
-  rule-below = and 4 write-rule-kinds.ps (falls 4 write-rule-kinds.ps _<_ μ-rule t) write-rule.Pre
+  abbrev pub rule-below : In 7 write-rule-kinds.ps
+  rule-below = and 7 write-rule-kinds.ps (falls 7 write-rule-kinds.ps _<_ μ-rule t) write-rule.Pre
 
-  abbrev pub slots-at : In 4 write-slots-kinds.ps
-  slots-at = and 4 write-slots-kinds.ps (is 4 write-slots-kinds.ps μ-slots t) write-slots.Pre
+  abbrev pub slots-at : In 7 write-slots-kinds.ps
+  slots-at = and 7 write-slots-kinds.ps (is 7 write-slots-kinds.ps μ-slots t) write-slots.Pre
 
-  abbrev pub slots-below : In 4 write-slots-kinds.ps
-  slots-below = and 4 write-slots-kinds.ps (falls 4 write-slots-kinds.ps _<_ μ-slots t) write-slots.Pre
+  abbrev pub slots-below : In 7 write-slots-kinds.ps
+  slots-below = and 7 write-slots-kinds.ps (falls 7 write-slots-kinds.ps _<_ μ-slots t) write-slots.Pre
 
   abbrev pub part-claims : part-lts.Claims
   part-claims = (own-of.Asked, own-of.Learnt, terminal-of.Asked, terminal-of.Learnt, rule-below, write-rule.Post)
