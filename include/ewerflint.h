@@ -15,8 +15,8 @@
  *
  * Stack. The most bytes that each call was seen to take, on the inputs of link/stack.c, which go deepest; link/stack measures them anew.
  *   ewf_make_form 10,900    ewf_mark 11,092      ewf_evaluate 3,304     ewf_size 152     ewf_label 33,016
- *   ewf_read_rule 56        ewf_unfold 460,704   ewf_walk 524,924       ewf_wrap 216
- * Unfolding takes 208 bytes for each level of a form's rules, the walk 128 for each level of its tree. No other call goes deeper with
+ *   ewf_read_rule 56        ewf_unfold 329,760   ewf_walk 524,924       ewf_wrap 216
+ * Unfolding takes 144 bytes for each level of a form's rules, the walk 128 for each level of its tree. No other call goes deeper with
  * what it is given, save making and marking, which take 8,196 to 8,500 and 8,404 to 8,708 on the sheets W, K7 and billions of samples/. */
 #ifndef EWERFLINT_H
 #define EWERFLINT_H
