@@ -1,9 +1,25 @@
 -- `certificate::certify::run` meets its contract: the calls' own contracts, side by side.
 use mathlib.Core.Path.{refl}
 use borrow.Author.Needs.{needs}
+use Rattle.terms.specs.Answer.{answerOfLength}
+use Rattle.unfolding.specs.Unfolding.{Unfolded}
 use Rattle.certificate.proofs.Handed.{unfolded-within}
 use Rattle.certificate.proofs.certify.run.Statement.{statement}
 use Rattle.certificate.proofs.certify.run.Tie as tie
+
+abbrev begin : tie.After-evaluate → tie.Start
+begin c = c .before .before .before .before .before .before .before .before .before
+
+abbrev evaluated : tie.After-unfold → tie.After-evaluate
+evaluated c = c .before .before .before .before .before
+
+abbrev unfolded : tie.After-walk-unfolded-arg2 → tie.After-unfold
+unfolded c = c .before .before .before .before .before .before
+
+-- what unfolding answered and wrote
+unfolds : (c : tie.After-unfold) → let a = begin (evaluated c) .args in
+    Unfolded (a .alphabet .now) (a .form .now) (answerOfLength (c .«unfold» .result)) (c .«unfold» .last .1 .1 .0) (a .counts .now) (c .«unfold» .last .1 .1 .1 .0) (a .tree .now)
+unfolds c = record { answered = c .«unfold» .ensures .0; counted = c .«unfold» .ensures .1 .1; written = c .«unfold» .ensures .1 .0 }
 
 evaluate-requires : tie.Need-evaluate-requires
 evaluate-requires c κs = search needs
@@ -12,10 +28,7 @@ unfold-requires : tie.Need-unfold-requires
 unfold-requires c κs = search needs
 
 walk-unfolded-requires : tie.Need-walk-unfolded-requires
-walk-unfolded-requires c κs =
-    let call = c .before .before .before .before .before .before in
-    let given = call .before .before .before .before .before .before .before .before .before .before .before .before .before .before .args in
-    unfolded-within (given .counts .now) (given .tree .now) (record { answered = call .«unfold» .ensures .0; counted = call .«unfold» .ensures .1 .1; written = call .«unfold» .ensures .1 .0 })
+walk-unfolded-requires c κs = unfolded-within _ _ (unfolds (unfolded c))
 
 same-length : tie.Need-same-length
 same-length c = search needs
@@ -32,13 +45,13 @@ same-length-4 c = search needs
 returns : tie.Need-returns
 returns c =
     let walk = c .before .before in
-    let nodes = walk .before .before .before .before .before .before .before in
-    let mask = nodes .before .before .before .before .before in
+    let nodes = unfolded (walk .before) in
+    let mask = evaluated nodes in
     record {
       made = refl;
       evaluated = mask .evaluate .ensures .0;
       relations = mask .evaluate .ensures .1 .0;
-      unfolded = record { answered = nodes .«unfold» .ensures .0; counted = nodes .«unfold» .ensures .1 .1; written = nodes .«unfold» .ensures .1 .0 };
+      unfolded = unfolds nodes;
       walked = walk .walk-unfolded .ensures;
     }
 

@@ -10,6 +10,10 @@ use Rattle.certificate.proofs.Handed.{none-walked, nodes-walked}
 use Rattle.certificate.proofs.certify.walk_unfolded.Statement.{statement}
 use Rattle.certificate.proofs.certify.walk_unfolded.Tie as tie
 
+-- where the function starts, seen from before the match
+abbrev begin : tie.After-slice-known → tie.Start
+begin c = c .before .before .before .before
+
 enum-known-unfolded : tie.Need-enum-known-unfolded
 enum-known-unfolded c = search needs
 
@@ -19,7 +23,7 @@ enum-known-unfolded-2 c = search needs
 slice-aggregate-walk : tie.Need-slice-aggregate-walk
 slice-aggregate-walk c =
     let told = c .before .before in
-    let start = told .before .before .before .before .before .before in
+    let start = begin (told .before .before) in
     sym (length-take-le _ (start .args .tree .now) (subst (λ (u : LengthAnswer). Within (answerOfLength u) (length (start .args .tree .now))) (told .unfolded2 .given .1) (start .pre)))
 
 walk-requires : tie.Need-walk-requires
@@ -28,7 +32,7 @@ walk-requires c κs = search needs
 returns : tie.Need-returns
 returns c =
     let told = c .before in
-    let given = told .before .before .before .before .before .before .args in
+    let given = begin (told .before .before) .args in
     none-walked (given .alphabet .now) (given .automaton .now) (given .tree .now) (ap answerOfLength (told .unfolded .given .1)) (given .masks .now)
 
 same-length : tie.Need-same-length
@@ -38,7 +42,7 @@ returns-2 : tie.Need-returns-2
 returns-2 c =
     let call = c .before .before in
     let told = call .before .before .before .before in
-    let given = told .before .before .before .before .before .before .args in
+    let given = begin (told .before .before) .args in
     nodes-walked (given .alphabet .now) (given .automaton .now) (given .tree .now) (ap answerOfLength (told .unfolded2 .given .1)) (given .masks .now) (call .walk .ensures .0) (call .walk .ensures .1)
 
 pub walk-unfolded-spec : {M : Type 1} → statement M
