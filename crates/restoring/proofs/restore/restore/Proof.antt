@@ -11,20 +11,29 @@ use Rattle.restoring.specs.Restore.{RestoringCalls}
 use Rattle.restoring.proofs.restore.restore.Statement.{statement}
 use Rattle.restoring.proofs.restore.restore.Tie as tie
 
+abbrev begin : tie.After-wrap → tie.Start
+begin c = c .before .before .before .before .before .before .before .before .before
+
+abbrev sheet-wrapped : tie.After-make-wrapped-arg2 → tie.After-wrap
+sheet-wrapped c = c .before .before .before .before
+
+abbrev form-made : tie.After-unfold-made-arg3 → tie.After-make-wrapped
+form-made c = c .before .before .before .before .before
+
 wrap-requires : tie.Need-wrap-requires
 wrap-requires c κs = search needs
 
 make-wrapped-requires : tie.Need-make-wrapped-requires
 make-wrapped-requires c κs =
-    let call = c .before .before .before .before in
-    let given = call .before .before .before .before .before .before .before .before .before .args in
-    lies-within (wrapRefusal (given .alphabet .now) (given .tree .now) (given .automaton .now) (length (given .sheet .now))) (wrapped (given .alphabet .now) (given .tree .now) (given .automaton .now)) (given .sheet .now) (call .wrap .ensures .0) (call .wrap .ensures .1)
+    let wrap = sheet-wrapped c in
+    let given = begin wrap .args in
+    lies-within (wrapRefusal (given .alphabet .now) (given .tree .now) (given .automaton .now) (length (given .sheet .now))) (wrapped (given .alphabet .now) (given .tree .now) (given .automaton .now)) (given .sheet .now) (wrap .wrap .ensures .0) (wrap .wrap .ensures .1)
 
 unfold-made-requires : tie.Need-unfold-made-requires
 unfold-made-requires c κs =
-    let call = c .before .before .before .before .before in
-    let given = call .before .before .before .before .before .before .before .before .before .before .before .before .before .before .args in
-    form-within (answerOfLength (call .before .before .before .before .before .wrap .result)) (answerOfLength (call .make-wrapped .result)) _ _ (given .form .now) (call .make-wrapped .ensures) (c .before .before .before .before .form .given)
+    let make = form-made c in
+    let wrap = sheet-wrapped (make .before) in
+    form-within (answerOfLength (wrap .wrap .result)) (answerOfLength (make .make-wrapped .result)) _ _ (begin wrap .args .form .now) (make .make-wrapped .ensures) (c .before .before .before .before .form .given)
 
 same-length : tie.Need-same-length
 same-length c = search needs
@@ -41,8 +50,8 @@ same-length-4 c = search needs
 returns : tie.Need-returns
 returns c =
     let nodes = c .before .before .before .before in
-    let make = nodes .before .before .before .before .before .before in
-    let wrap = make .before .before .before .before .before in
+    let make = form-made (nodes .before) in
+    let wrap = sheet-wrapped (make .before) in
     let calls : RestoringCalls _ _ _ _ _ _ = record {
       wraps = wrap .wrap .ensures .0;
       writes = wrap .wrap .ensures .1;
