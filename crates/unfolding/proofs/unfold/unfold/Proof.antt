@@ -34,6 +34,19 @@ table-known : (c : tie.After-start-of) → let table = c .before .before .table-
     ValidTable (a .alphabet .now) table × (rules ≡ tableCount table) × (c .start-of .result .0 < rules) × (countsPerRule * rules ≤ length (a .counts .now))
 table-known c = sizable-parts (passes (passed c)) _ _ _ (c .before .before .table-of .ensures) (c .before .rule-count .ensures .0) (c .start-of .ensures)
 
+-- where the form was parted, seen from the call with room for a small form and from the one with room for the largest
+abbrev small : tie.After-known → tie.After-start-of
+small c = c .before .before .before .before
+
+abbrev large : tie.After-known3 → tie.After-start-of
+large c = c .before .before .before .before
+
+abbrev small-unfolded : tie.After-known2 → tie.After-unfold-with
+small-unfolded c = c .before .before .before .before .before
+
+abbrev large-unfolded : tie.After-known4 → tie.After-unfold-with2
+large-unfolded c = c .before .before .before .before .before
+
 check-size-requires : tie.Need-check-size-requires
 check-size-requires c κs = search needs
 
@@ -54,10 +67,8 @@ slice-aggregate-unfold-with c = search needs
 
 unfold-with-requires : tie.Need-unfold-with-requires
 unfold-with-requires c κs =
-    let small = c .before .before .before in
-    let parts = small .before in
-    let (v, n, low, room) = table-known parts in
-    let few = small .if2 .taken in
+    let (v, n, low, room) = table-known (small c) in
+    let few = c .before .before .before .if2 .taken in
     (v, n, low, room, omega arith)
 
 same-length : tie.Need-same-length
@@ -68,8 +79,8 @@ same-length-2 c = search needs
 
 returns-2 : tie.Need-returns-2
 returns-2 c =
-    let call = c .before .before .before .before .before in
-    let parts = call .before .before .before .before .before in
+    let call = small-unfolded c in
+    let parts = small (call .before) in
     let a = begin (passed parts) .args in
     start-unfolds _ _ (a .counts .now) (a .tree .now) (none (passed parts)) _ (parts .before .before .table-of .ensures) _ (parts .start-of .ensures) _ _ _ (call .unfold-with .ensures)
 
@@ -78,8 +89,7 @@ slice-aggregate-unfold-with-2 c = search needs
 
 unfold-with-requires-2 : tie.Need-unfold-with-requires-2
 unfold-with-requires-2 c κs =
-    let parts = c .before .before .before .before in
-    let (v, n, low, room) = table-known parts in
+    let (v, n, low, room) = table-known (large c) in
     (v, n, low, room, omega (arith, v .few, n))
 
 same-length-3 : tie.Need-same-length-3
@@ -90,8 +100,8 @@ same-length-4 c = search needs
 
 returns-3 : tie.Need-returns-3
 returns-3 c =
-    let call = c .before .before .before .before .before in
-    let parts = call .before .before .before .before .before in
+    let call = large-unfolded c in
+    let parts = large (call .before) in
     let a = begin (passed parts) .args in
     start-unfolds _ _ (a .counts .now) (a .tree .now) (none (passed parts)) _ (parts .before .before .table-of .ensures) _ (parts .start-of .ensures) _ _ _ (call .unfold-with2 .ensures)
 
