@@ -71,21 +71,23 @@ rule-refusal-requires c κs =
     let nodes = length-take-most (read .result .end - read .result .start) (drop (read .result .start) body) in
     (l .loop .inv .size, more (span .before) .1, omega (arith, nodes, span-count body (l .loop .at) (read .ensures), l .before .shared-slice-known2 .given (l .loop .at + 1)))
 
+-- the test that found the rule
+abbrev found : tie.After-rule-refusal Inv-loop μ-loop → tie.Then1 Inv-loop μ-loop
+found c = c .before .before .before .before
+
 -- what the call answers is the refusal of the present rule
 answer : (c : tie.After-rule-refusal Inv-loop μ-loop)
-    → let l = turn (c .before .before .before .before) in
+    → let l = turn (found c) in
     let a = begin l .args in
     c .rule-refusal .result ≡ ruleRefusal (a .alphabet .now) (rulesBody (a .body .now) .rules) (l .loop .rule .0)
 answer c =
-    let span = c .before .before .before in
-    let known = more (span .before) in
-    c .rule-refusal .ensures ∙ rule-check _ _ _ _ _ (turn (span .before) .loop .inv) (known .0) (known .1) (there span)
-
-abbrev tested : tie.After-rule-refusal Inv-loop μ-loop → tie.At-loop Inv-loop μ-loop
-tested c = turn (c .before .before .before .before)
+    let known = more (found c) in
+    c .rule-refusal .ensures ∙ rule-check _ _ _ _ _ (turn (found c) .loop .inv) (known .0) (known .1) (there (c .before .before .before))
 
 refused : tie.Need-returns Inv-loop μ-loop
-refused c = answer (c .before) ∙ rule-refused _ _ _ _ _ (tested (c .before) .loop .inv) (more (c .before .before .before .before .before) .0) (λ e. c .if2 .taken (answer (c .before) ∙ e))
+refused c =
+    let rule = found (c .before) in
+    answer (c .before) ∙ rule-refused _ _ _ _ _ (turn rule .loop .inv) (more rule .0) (λ e. c .if2 .taken (answer (c .before) ∙ e))
 
 index-fits : tie.Need-cast-ranks Inv-loop μ-loop
 index-fits c = omega arith
@@ -103,8 +105,8 @@ loop-again : tie.Need-loop-again Inv-loop μ-loop
 loop-again c =
     let test = c .before .before in
     let call = test .before in
-    let known = more (call .before .before .before .before) in
-    rule-checked _ _ _ _ _ (tested call .loop .inv) (known .0) (known .1) (there (call .before .before .before)) (sym (answer call) ∙ test .if2 .left)
+    let known = more (found call) in
+    rule-checked _ _ _ _ _ (turn (found call) .loop .inv) (known .0) (known .1) (there (call .before .before .before)) (sym (answer call) ∙ test .if2 .left)
 
 last-fits : tie.Need-sub-if3 Inv-loop μ-loop
 last-fits c = omega arith

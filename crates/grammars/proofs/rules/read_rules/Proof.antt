@@ -9,6 +9,13 @@ use Rattle.grammars.proofs.Reading.{Counted, counted, cut-refused, tabl
 use Rattle.grammars.proofs.rules.read_rules.Statement.{statement}
 use Rattle.grammars.proofs.rules.read_rules.Tie as tie
 
+abbrev begin : tie.After-known-told → tie.Start
+begin c = c .before .before .before .before .before .before
+
+-- the counts are known, seen from behind the limits
+abbrev told : tie.Else3 → tie.After-known-told
+told c = c .before .before .before .before
+
 count-rules-requires : tie.Need-count-rules-requires
 count-rules-requires c κs = search needs
 
@@ -22,7 +29,7 @@ cut-off : tie.Need-returns
 cut-off c = rw (cut-refused _ _ _ (sym (c .enum-told .given .1) ∙ c .before .before .count-rules .ensures))
 
 -- past the match the counts are those of the body
-counts : (c : tie.After-known-told) → Counted (rulesBody (c .before .before .before .before .before .before .args .body .now)) (c .before .counts .given .0 .0)
+counts : (c : tie.After-known-told) → Counted (rulesBody (begin c .args .body .now)) (c .before .counts .given .0 .0)
 counts c = counted _ _ (sym (c .before .counts .given .1) ∙ c .before .before .before .count-rules .ensures)
 
 no-rules : tie.Need-returns-2
@@ -37,22 +44,22 @@ many-nodes c =
     rw (table _ _ _ (counts (d .before .before)), ne-eqb _ _ (d .before .if1 .left), le-ltb _ _ (d .if2 .left), lt-ltb _ _ (c .if3 .taken))
 
 each-refusal-requires : tie.Need-each-refusal-requires
-each-refusal-requires c κs = (counts (c .before .before .before .before) .rules, omega arith, omega arith)
+each-refusal-requires c κs = (counts (told c) .rules, omega arith, omega arith)
 
 -- past the limits each rule and the start decide
 rest : (c : tie.After-each-refusal)
-    → let a = c .before .before .before .before .before .before .before .before .before .before .before .args in
+    → let a = begin (told (c .before)) .args in
     rulesRefusal (a .alphabet .now) (a .body .now) ≡ c .each-refusal .result
 rest c =
     let d = c .before .before .before in
-    rw (table _ _ _ (counts (d .before .before)), ne-eqb _ _ (d .before .if1 .left), le-ltb _ _ (d .if2 .left), le-ltb _ _ (c .before .if3 .left))
+    rw (table _ _ _ (counts (told (c .before))), ne-eqb _ _ (d .before .if1 .left), le-ltb _ _ (d .if2 .left), le-ltb _ _ (c .before .if3 .left))
     (sym (c .each-refusal .ensures))
 
 refused : tie.Need-returns-5
 refused c = rw (rest (c .before)) (refusal-read _ _ (c .if4 .taken))
 
 read : tie.Need-returns-6
-read c = rw (rest (c .before), c .if4 .left) (counts (c .before .before .before .before .before .before) .read)
+read c = rw (rest (c .before), c .if4 .left) (counts (told (c .before .before)) .read)
 
 pub read-rules-spec : {M : Type 1} → statement M
 read-rules-spec =

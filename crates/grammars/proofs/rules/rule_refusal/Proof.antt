@@ -24,6 +24,13 @@ Inv-loop alphabet ranks rule rank nodes behind₀ counts₀ left₀ behind count
 abbrev μ-loop : tie.MeasureT-loop
 μ-loop alphabet ranks rule rank nodes behind₀ counts₀ left₀ behind counts left = left
 
+abbrev begin : tie.At-loop Inv-loop μ-loop → tie.Start Inv-loop μ-loop
+begin c = c .before .before .before .before
+
+-- the turn in which a node was read
+abbrev turn : tie.After-name-of Inv-loop μ-loop → tie.At-loop Inv-loop μ-loop
+turn c = c .before .before .before
+
 -- the answer that the contract asks for
 abbrev asked : tie.Start Inv-loop μ-loop → ℕ
 asked c = let a = c .args in ruleRefusal (a .alphabet .now) (seenFrom (a .ranks .now) (a .rule .0) (a .rank) (a .nodes .now)) (a .rule .0)
@@ -51,32 +58,32 @@ allowed-requires c κs = tt
 unknown : tie.Need-returns-2 Inv-loop μ-loop
 unknown c =
     let n = c .before .before in
-    let l = n .before .before .before in
+    let l = turn n in
     sym (unknown-refused _ _ _ _ _ (omega arith) (l .before .if1 .left) _ _ _ (l .loop .inv) (omega arith) _ (n .name-of .ensures)
     (sym (c .before .allowed .ensures) ∙ not-true _ (c .if2 .taken)))
 
 -- past the test the node is allowed
 fine : (c : tie.Else2 Inv-loop μ-loop)
-    → let a = c .before .before .before .before .before .before .before .before .before .args in
+    → let a = begin (turn (c .before .before)) .args in
     allowed (a .alphabet .now) (a .rule .0) (a .rank) (naming (c .before .before .name-of .result)) ≡ true
 fine c = sym (c .before .allowed .ensures) ∙ not-false _ (c .if2 .left)
 
 name-rank-requires : tie.Need-name-rank-requires Inv-loop μ-loop
 name-rank-requires c κs =
-    let a = c .before .before .before .before .before .before .before .before .before .args in
+    let a = begin (turn (c .before .before)) .args in
     has-rank (a .alphabet .now) (a .rule .0) (a .rank) (naming (c .before .before .name-of .result)) (fine c) (omega arith)
 
 taking-requires : tie.Need-taking-requires Inv-loop μ-loop
 taking-requires c κs =
-    let l = c .before .before .before .before .before .before in
-    let n = l .before .before .before .before .args .nodes .now in
+    let l = turn (c .before .before .before) in
+    let n = begin l .args .nodes .now in
     omega (arith, few-trees _ (drop (l .loop .left) n) (l .loop .behind) (l .loop .inv .trees), length-drop (l .loop .left) n)
 
 count-parameter-requires : tie.Need-count-parameter-requires Inv-loop μ-loop
 count-parameter-requires c κs =
     let e = c .before .before .before in
-    let l = e .before .before .before .before .before in
-    let n = l .before .before .before .before .args .nodes .now in (
+    let l = turn (e .before .before) in
+    let n = begin l .args .nodes .now in (
       l .loop .inv .size,
       (λ j p. omega (arith, own-parameter _ _ _ _ j (fine e) p)),
       λ j. omega (arith, l .loop .inv .counted j, few-times j (drop (l .loop .left) n), length-drop (l .loop .left) n),
@@ -90,7 +97,7 @@ loop-again c =
     let t = c .before .before in
     let e = t .before .before in
     let n = e .before .before in
-    let l = n .before .before .before in
+    let l = turn n in
     node-scanned _ _ _ _ _ (omega arith) (l .before .if1 .left) _ _ _ (l .loop .inv) (omega arith) _ (n .name-of .ensures) (fine e) _ (t .before .name-rank .ensures)
     _ (t .taking .ensures) _ (c .count-parameter .ensures .0) (c .count-parameter .ensures .1)
 
@@ -100,7 +107,7 @@ is-one-requires c κs = tt
 -- past the loop the counts decide
 decided : (c : tie.After-loop Inv-loop μ-loop)
     → let l = c .before in
-    let s = l .before .before .before .before in
+    let s = begin l in
     asked s
     ≡ rows false false (not (isOne (counting (l .loop .behind)))) (not (every (s .args .rank) (λ j. eqb (getD (l .loop .counts) j 0) 1))) (lone (s .args .nodes .now))
 decided c = all-scanned _ _ _ _ _ (omega arith) (omega arith) _ _ _ (omega arith) (c .before .loop .inv)
@@ -108,10 +115,13 @@ decided c = all-scanned _ _ _ _ _ (omega arith) (omega arith) _ _ _ (omega arith
 broken : tie.Need-returns-3 Inv-loop μ-loop
 broken c = sym (decided (c .before .before) ∙ rw (sym (c .before .is-one .ensures) ∙ not-true _ (c .if3 .taken)))
 
+abbrev looped : tie.Else3 Inv-loop μ-loop → tie.At-loop Inv-loop μ-loop
+looped c = c .before .before .before
+
 -- past the test there is one tree
 one : (c : tie.Else3 Inv-loop μ-loop)
-    → let l = c .before .before .before in
-    let s = l .before .before .before .before in
+    → let l = looped c in
+    let s = begin l in
     asked s ≡ rows false false false (not (every (s .args .rank) (λ j. eqb (getD (l .loop .counts) j 0) 1))) (lone (s .args .nodes .now))
 one c = decided (c .before .before) ∙ rw (sym (c .before .is-one .ensures) ∙ not-false _ (c .if3 .left))
 
@@ -124,12 +134,14 @@ lost c = sym (one (c .before .before .before) ∙ rw (sym (c .before .each-once 
 lone-requires : tie.Need-lone-requires Inv-loop μ-loop
 lone-requires c κs = tt
 
+abbrev one-tree : tie.After-lone Inv-loop μ-loop → tie.Else3 Inv-loop μ-loop
+one-tree c = c .before .before .before .before
+
 -- past the test each parameter occurs once
-once : (c : tie.After-lone Inv-loop μ-loop)
-    → asked (c .before .before .before .before .before .before .before .before .before .before .before) ≡ rows false false false false (c .lone .result)
+once : (c : tie.After-lone Inv-loop μ-loop) → asked (begin (looped (one-tree c))) ≡ rows false false false false (c .lone .result)
 once c =
     let t = c .before in
-    one (t .before .before .before) ∙ rw (sym (t .before .each-once .ensures) ∙ not-false _ (t .if4 .left), sym (c .lone .ensures))
+    one (one-tree c) ∙ rw (sym (t .before .each-once .ensures) ∙ not-false _ (t .if4 .left), sym (c .lone .ensures))
 
 bare : tie.Need-returns-5 Inv-loop μ-loop
 bare c = sym (once (c .before) ∙ rw (c .if5 .taken))
