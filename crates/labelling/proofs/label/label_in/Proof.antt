@@ -29,9 +29,16 @@ returns c = (rw (c .before .terminal .given .1) at (c .before .before .before .f
 enum-known-lower : tie.Need-enum-known-lower Inv-loop μ-loop
 enum-known-lower c = search needs
 
+abbrev begin : tie.At-loop Inv-loop μ-loop → tie.Start Inv-loop μ-loop
+begin c = c .before .before .before .before
+
+-- the turn in which the next place was found
+abbrev turn : tie.After-known-told2 Inv-loop μ-loop → tie.At-loop Inv-loop μ-loop
+turn c = c .before .before .before .before
+
 -- the place that is next
-leads : (c : tie.After-known-told2 Inv-loop μ-loop) → let a = c .before .before .before .before .before .before .before .before .args in
-    let at = c .before .before .before .before .loop .at in
+leads : (c : tie.After-known-told2 Inv-loop μ-loop) → let a = begin (turn c) .args in
+    let at = turn c .loop .at in
     let lower = c .before .lower .given .0 .0 in
     Lies (a .alphabet .now) (a .table .now) (at .rule .0) (at .position) (lower .rule .0) (lower .position)
 leads c = rw (c .before .lower .given .1) at (c .before .before .before .follow .ensures)
@@ -41,7 +48,7 @@ loop-less c = leads c .below
 
 loop-again : tie.Need-loop-again Inv-loop μ-loop
 loop-again c =
-    let (at, same) = c .before .before .before .before .loop .inv in
+    let (at, same) = turn c .loop .inv in
     let next = leads c in (
       record { known = at .known; rule = omega (arith, at .rule, next .below); within = next .within },
       sym (next .same) ∙ same,

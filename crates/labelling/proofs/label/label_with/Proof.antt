@@ -45,7 +45,7 @@ copied : (c : tie.After-copy-counts) → let a = begin (counting (tested c .befo
 copied c = let call = counting (tested c .before) in c .copy-counts .ensures ∙ counts-copied (known call) _ _ (begin call .pre .1)
 
 count-nodes-requires : tie.Need-count-nodes-requires
-count-nodes-requires c κs = let (v, n, low, room, work) = c .before .before .before .before .before .pre in (v, n, work)
+count-nodes-requires c κs = search needs
 
 own-of-requires : tie.Need-own-of-requires
 own-of-requires c κs = let call = c .before .before .before in counts-there (known call) _ (start-below (begin call))
