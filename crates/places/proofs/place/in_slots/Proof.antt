@@ -18,6 +18,13 @@ Inv-loop table counts rule from to position left₀ j₀ left j =
 abbrev μ-loop : tie.MeasureT-loop
 μ-loop table counts rule from to position left₀ j₀ left j = to - j
 
+abbrev begin : tie.At-loop Inv-loop μ-loop → tie.Start Inv-loop μ-loop
+begin c = c .before .before .before
+
+-- the turn in which a slot's nodes were read
+abbrev turn : tie.After-own-of Inv-loop μ-loop → tie.At-loop Inv-loop μ-loop
+turn c = c .before .before .before
+
 -- position p of the slots from j on, by the nodes of slot j
 module _ (own slot : ℕ → ℕ) (j to p : ℕ) where
   falls-here : j < to → p < own (slot j) → placeIn own (slotsFrom slot j to) p ≡ (slot j, p)
@@ -29,9 +36,9 @@ module _ (own slot : ℕ → ℕ) (j to p : ℕ) where
   falls-nowhere : to ≤ j → placeIn own (slotsFrom slot j to) p ≡ (0, p)
   falls-nowhere h = rw (slots-none slot j to h)
 
-nodes-are : (c : tie.After-own-of Inv-loop μ-loop) → let s = c .before .before .before .before .before .before in
-    c .own-of .result ≡ ownIn (s .args .counts .now) (slotOf (s .args .table .now) (s .args .rule .0) (c .before .before .before .loop .j))
-nodes-are c = c .own-of .ensures ∙ ap (ownIn (c .before .before .before .before .before .before .args .counts .now)) (c .before .slot-of .ensures)
+nodes-are : (c : tie.After-own-of Inv-loop μ-loop) → let s = begin (turn c) in
+    c .own-of .result ≡ ownIn (s .args .counts .now) (slotOf (s .args .table .now) (s .args .rule .0) (turn c .loop .j))
+nodes-are c = c .own-of .ensures ∙ ap (ownIn (begin (turn c) .args .counts .now)) (c .before .slot-of .ensures)
 
 loop-holds : tie.Need-loop-holds Inv-loop μ-loop
 loop-holds c = (omega arith, omega arith, refl)
@@ -41,12 +48,13 @@ slot-of-requires c κs = omega arith
 
 own-of-requires : tie.Need-own-of-requires Inv-loop μ-loop
 own-of-requires c κs =
-    rw (c .slot-of .ensures) (c .before .before .before .before .before .pre .low (c .before .before .loop .j) (omega arith) (omega arith))
+    let head = c .before .before in
+    rw (c .slot-of .ensures) (begin head .pre .low (head .loop .j) (omega arith) (omega arith))
 
 returns : tie.Need-returns Inv-loop μ-loop
 returns c =
-    let head = c .before .before .before .before in
-    let a = head .before .before .before .args in
+    let head = turn (c .before) in
+    let a = begin head .args in
     let own = ownIn (a .counts .now) in
     let slot = slotOf (a .table .now) (a .rule .0) in
     let nodes = nodes-are (c .before) in
@@ -60,8 +68,8 @@ loop-less c = omega arith
 
 loop-again : tie.Need-loop-again Inv-loop μ-loop
 loop-again c =
-    let head = c .before .before .before .before in
-    let a = head .before .before .before .args in
+    let head = turn (c .before) in
+    let a = begin head .args in
     let own = ownIn (a .counts .now) in
     let slot = slotOf (a .table .now) (a .rule .0) in
     let nodes = nodes-are (c .before) in (
@@ -75,7 +83,7 @@ loop-again c =
 returns-2 : tie.Need-returns-2 Inv-loop μ-loop
 returns-2 c =
     let head = c .before in
-    let a = head .before .before .before .args in
+    let a = begin head .args in
     sym (head .loop .inv .2 ∙ falls-nowhere (ownIn (a .counts .now)) (slotOf (a .table .now) (a .rule .0)) (head .loop .j) (a .to) (head .loop .left) (omega arith))
 
 pub in-slots-spec : {M : Type 1} → statement M
