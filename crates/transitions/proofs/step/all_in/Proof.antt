@@ -44,6 +44,10 @@ Inv-loop sets states j₀ j = (j ≤ length sets) × (allIn sets states ≡ allI
 abbrev μ-loop : tie.MeasureT-loop
 μ-loop sets states j₀ j = length sets - j
 
+-- the turn in which a state and its set were read
+abbrev turn : tie.After-struct-known Inv-loop μ-loop → tie.At-loop Inv-loop μ-loop
+turn c = c .before .before .before .before
+
 loop-holds : tie.Need-loop-holds Inv-loop μ-loop
 loop-holds c = (omega arith, refl)
 
@@ -54,12 +58,12 @@ shared-slice-read-if1-2 : tie.Need-shared-slice-read-if1-2 Inv-loop μ-loop
 shared-slice-read-if1-2 c = omega arith
 
 shr-if1 : tie.Need-shr-if1 Inv-loop μ-loop
-shr-if1 c = c .before .before .before .before .before .pre .1 (c .before .before .before .before .loop .j)
+shr-if1 c = turn c .before .pre .1 (turn c .loop .j)
 
 returns : tie.Need-returns Inv-loop μ-loop
 unfolding bit
 returns c =
-    let l = c .before .before .before .before .before in
+    let l = turn (c .before) in
     let s = l .before in
     sym (l .loop .inv .1 ∙ stops (s .args .sets .now) (s .args .states .now) (s .pre .0) (l .loop .j) (omega arith) (c .if1 .taken))
 
@@ -72,7 +76,7 @@ loop-less c = search needs
 loop-again : tie.Need-loop-again Inv-loop μ-loop
 unfolding bit
 loop-again c =
-    let l = c .before .before .before .before .before in
+    let l = turn (c .before) in
     let s = l .before in
     (omega arith, l .loop .inv .1 ∙ goes-on (s .args .sets .now) (s .args .states .now) (s .pre .0) (l .loop .j) (omega arith) (c .if1 .left))
 

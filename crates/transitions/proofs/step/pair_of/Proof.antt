@@ -11,6 +11,12 @@ use Rattle.transitions.proofs.Leads.{states-length, states-small, pair-
 use Rattle.transitions.proofs.step.pair_of.Statement.{statement}
 use Rattle.transitions.proofs.step.pair_of.Tie as tie
 
+abbrev begin : tie.After-states → tie.Start
+begin c = c .before .before .before
+
+abbrev hole-read : tie.After-struct-known2 → tie.After-state-at
+hole-read c = c .before .before .before
+
 mul-at : tie.Need-mul-at
 mul-at c = search needs
 
@@ -34,7 +40,7 @@ part-states-end c = search needs
 
 all-in-requires : tie.Need-all-in-requires
 all-in-requires c κs =
-    let s = c .before .before .before in
+    let s = begin c in
     let a = s .args .automaton .now in
     let n = length (s .args .sets .now) in
     rw (add-sub-cancel-left (2 + 6 * s .args .i + 2) n) (sym (states-length a n (s .args .i) (s .pre)), states-small a n (s .args .i) (s .pre))
@@ -62,26 +68,28 @@ add-result c = search needs
 
 shl-result : tie.Need-shl-result
 shl-result c =
-    let s = c .before .before .before .before .before .before .before .before .before in
-    let from = rw (add-sub-cancel-left (2 + 6 * s .args .i + 2) (length (s .args .sets .now))) at (c .before .before .before .state-at .ensures) in
+    let state = hole-read c in
+    let s = begin (state .before .before .before) in
+    let from = rw (add-sub-cancel-left (2 + 6 * s .args .i + 2) (length (s .args .sets .now))) at (state .state-at .ensures) in
     omega (arith, from, states-small (s .args .automaton .now) (length (s .args .sets .now)) (s .args .i) (s .pre) (s .args .hole), s .pre .target)
 
 returns : tie.Need-returns
 returns c =
-    let s = c .before .before .before .before .before .before .before .before .before in
+    let state = hole-read c in
+    let s = begin (state .before .before .before) in
     let a = s .args .automaton .now in
     let n = length (s .args .sets .now) in
     let i = s .args .i in
     let k = add-sub-cancel-left (2 + 6 * i + 2) n in
-    let e = rw k at (c .before .before .before .before .before .all-in .ensures) in
-    let from = rw k at (c .before .before .before .state-at .ensures) in
-    one-shl (8 * c .before .before .before .state-at .result .0 + transitionByte a i 1) (shl-result c)
+    let e = rw k at (state .before .before .all-in .ensures) in
+    let from = rw k at (state .state-at .ensures) in
+    one-shl (8 * state .state-at .result .0 + transitionByte a i 1) (shl-result c)
     ∙ ap (λ (x : ℕ). 2 ^ (8 * x + transitionByte a i 1)) from
-    ∙ pair-there a n i (s .pre) (s .args .sets .now) (s .args .hole) (sym e ∙ c .before .before .before .before .if1 .taken)
+    ∙ pair-there a n i (s .pre) (s .args .sets .now) (s .args .hole) (sym e ∙ state .before .if1 .taken)
 
 returns-2 : tie.Need-returns-2
 returns-2 c =
-    let s = c .before .before .before .before .before in
+    let s = begin (c .before .before) in
     let a = s .args .automaton .now in
     let n = length (s .args .sets .now) in
     let i = s .args .i in

@@ -11,6 +11,9 @@ use Rattle.transitions.proofs.Node.{closed-step}
 use Rattle.transitions.proofs.step.step_from.Statement.{statement}
 use Rattle.transitions.proofs.step.step_from.Tie as tie
 
+abbrev begin : tie.After-shared-slice-known4 → tie.Start
+begin c = c .before .before .before .before .before
+
 cast-at : tie.Need-cast-at
 cast-at c = search needs
 
@@ -18,16 +21,16 @@ shared-slice-read-rank : tie.Need-shared-slice-read-rank
 shared-slice-read-rank c = search needs
 
 cast-rank : tie.Need-cast-rank
-cast-rank c = omega (arith, c .shared-slice-known4 .given (c .before .before .before .before .before .args .terminal .0))
+cast-rank c = omega (arith, c .shared-slice-known4 .given (begin c .args .terminal .0))
 
 slice-aggregate-walk : tie.Need-slice-aggregate-walk
 slice-aggregate-walk c =
-    let s = c .before .before .before .before .before .before in
+    let s = begin (c .before) in
     sym (as-many (s .args .alphabet .now) (s .args .automaton .now) (s .args .links .now) (s .args .sets .now) (s .args .terminal .0) (s .pre .0) (s .pre .1))
 
 walk-requires : tie.Need-walk-requires
 walk-requires c κs =
-    let s = c .before .before .before .before .before .before in
+    let s = begin (c .before) in
     walkable (s .args .alphabet .now) (s .args .automaton .now) (s .args .links .now) (s .args .sets .now) (s .args .terminal .0) (s .pre .0) (s .pre .1)
 
 cast-result : tie.Need-cast-result
@@ -35,7 +38,7 @@ cast-result c = search needs
 
 returns : tie.Need-returns
 returns c =
-    let s = c .before .before .before .before .before .before .before in
+    let s = begin (c .before .before) in
     let alphabet = s .args .alphabet .now in
     let a = s .args .automaton .now in
     let links = s .args .links .now in

@@ -13,6 +13,9 @@ use Rattle.transitions.proofs.Node.{open-step}
 use Rattle.transitions.proofs.step.step_open.Statement.{statement}
 use Rattle.transitions.proofs.step.step_open.Tie as tie
 
+abbrev begin : tie.After-shared-slice-known3 → tie.Start
+begin c = c .before .before .before .before
+
 four : (s : tie.Start) → length (s .args .sets) ≡ 4
 four s = s .good .1 .1 .1 .1 .0 .1 .0 .1
 
@@ -27,31 +30,31 @@ shared-slice-read-rank : tie.Need-shared-slice-read-rank
 shared-slice-read-rank c = search needs
 
 cast-rank : tie.Need-cast-rank
-cast-rank c = omega (arith, c .shared-slice-known3 .given (c .before .before .before .before .args .terminal .0))
+cast-rank c = omega (arith, c .shared-slice-known3 .given (begin c .args .terminal .0))
 
 array-write-opened : tie.Need-array-write-opened
 array-write-opened c =
-    let s = c .before .before .before .before in
+    let s = begin c in
     omega (arith, s .pre .1, four s, enough (s .args .alphabet .now) (s .args .automaton .now) (s .args .links .now) (s .args .sets) (s .args .terminal .0) (s .pre .0) (four s))
 
 array-share-prefix-opened : tie.Need-array-share-prefix-opened
 array-share-prefix-opened c =
-    let s = c .before .before .before .before in
+    let s = begin c in
     simp length-set (enough (s .args .alphabet .now) (s .args .automaton .now) (s .args .links .now) (s .args .sets) (s .args .terminal .0) (s .pre .0) (four s))
 
 slice-aggregate-walk : tie.Need-slice-aggregate-walk
 slice-aggregate-walk c =
-    let s = c .before .before .before .before .before in
+    let s = begin (c .before) in
     sym (as-many (s .args .alphabet .now) (s .args .automaton .now) (s .args .links .now) _ (s .args .terminal .0) (s .pre .0) (opened-four s _))
 
 walk-requires : tie.Need-walk-requires
 walk-requires c κs =
-    let s = c .before .before .before .before .before in
+    let s = begin (c .before) in
     walkable (s .args .alphabet .now) (s .args .automaton .now) (s .args .links .now) _ (s .args .terminal .0) (s .pre .0) (opened-four s _)
 
 returns : tie.Need-returns
 returns c =
-    let s = c .before .before .before .before .before .before in
+    let s = begin (c .before .before) in
     let alphabet = s .args .alphabet .now in
     let a = s .args .automaton .now in
     let links = s .args .links .now in

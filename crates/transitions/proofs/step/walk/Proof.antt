@@ -20,6 +20,13 @@ Inv-loop automaton links sets hole count head pairs₀ i₀ pairs i = (count ≡
 abbrev μ-loop : tie.MeasureT-loop
 μ-loop automaton links sets hole count head pairs₀ i₀ pairs i = transitionCount automaton - i
 
+abbrev begin : tie.After-i Inv-loop μ-loop → tie.Start Inv-loop μ-loop
+begin c = c .before .before .before .before
+
+-- the turn in which the next link was read
+abbrev turn : tie.After-i2 Inv-loop μ-loop → tie.At-loop Inv-loop μ-loop
+turn c = c .before .before .before
+
 sub-count : tie.Need-sub-count Inv-loop μ-loop
 sub-count c = c .before .before .pre .long
 
@@ -34,13 +41,13 @@ element-copy-out-i c = omega (arith, c .struct-known .given)
 
 cast-i : tie.Need-cast-i Inv-loop μ-loop
 cast-i c =
-    let s = c .before .before .before .before in
+    let s = begin c in
     omega (arith, head-small (s .args .automaton .now) (s .args .links .now) (s .args .terminal .0) (length (s .args .sets .now)) (s .pre) (omega (arith, c .before .struct-known .given)))
 
 loop-holds : tie.Need-loop-holds Inv-loop μ-loop
 unfolding transitionCount
 loop-holds c =
-    let s = c .before .before .before .before in
+    let s = begin c in
     let f = s .args .terminal .0 in
     let first = s .pre .linked .head f (omega (arith, c .before .struct-known .given)) in (
       refl,
@@ -50,32 +57,32 @@ loop-holds c =
 
 pair-of-requires : tie.Need-pair-of-requires Inv-loop μ-loop
 pair-of-requires c κs =
-    let s = c .before .before .before .before .before .before in
+    let s = begin (c .before .before) in
     let l = c .before .loop in
     let h : l .i < transitionCount (s .args .automaton .now) = omega arith in
     s .pre .usable (l .i) h (l .inv .1 .here h ∙ add-sub-cancel-left heads (s .args .terminal .0))
 
 element-copy-out-i-2 : tie.Need-element-copy-out-i-2 Inv-loop μ-loop
 element-copy-out-i-2 c =
-    let s = c .before .before .before .before .before .before .before in
+    let s = begin (c .before .before .before) in
     omega (arith, s .pre .few)
 
 cast-i-2 : tie.Need-cast-i-2 Inv-loop μ-loop
 cast-i-2 c =
-    let s = c .before .before .before .before .before .before .before .before in
-    let l = c .before .before .before .loop in
+    let s = begin (turn c .before) in
+    let l = turn c .loop in
     omega (arith, link-small (s .args .automaton .now) (s .args .links .now) (s .args .terminal .0) (length (s .args .sets .now)) (s .pre) (l .i) (omega arith))
 
 loop-less : tie.Need-loop-less Inv-loop μ-loop
 loop-less c =
-    let s = c .before .before .before .before .before .before .before .before in
-    let l = c .before .before .before .loop in
+    let s = begin (turn c .before) in
+    let l = turn c .loop in
     omega (arith, s .pre .linked .next (l .i) (omega arith) .from)
 
 loop-again : tie.Need-loop-again Inv-loop μ-loop
 loop-again c =
-    let s = c .before .before .before .before .before .before .before .before in
-    let l = c .before .before .before .loop in
+    let s = begin (turn c .before) in
+    let l = turn c .loop in
     let h : l .i < transitionCount (s .args .automaton .now) = omega arith in (
       l .inv .0,
       goes-on (s .args .automaton .now) (s .args .sets .now) (heads + s .args .terminal .0 - heads) (s .args .hole) (l .pairs) (c .before .pair-of .result) (l .i)
@@ -84,7 +91,7 @@ loop-again c =
 
 returns : tie.Need-returns Inv-loop μ-loop
 returns c =
-    let s = c .before .before .before .before .before .before in
+    let s = begin (c .before .before) in
     let l = c .before .loop in
     let ms = s .args .sets .now in
     let a = s .args .automaton .now in
