@@ -23,9 +23,12 @@ is-read c = search needs
 check-automaton-requires : tie.Need-check-automaton-requires
 check-automaton-requires c κs = search needs
 
+abbrev rules-read : tie.After-check-automaton → tie.After-read-rules
+rules-read c = c .before .before .before .before
+
 automaton-refused : tie.Need-returns-2
 automaton-refused c =
-    let rules = c .before .before .before .before .before in
+    let rules = rules-read (c .before) in
     let read = sym (c .before .before .before .counts .given .1) ∙ rules .read-rules .ensures in
     automaton-first _ _ _ (rules .before .before .check-alphabet .ensures) (rules .before .if1 .left) read (c .before .check-automaton .ensures) (c .if2 .taken)
 
@@ -36,7 +39,7 @@ rules-refused c =
 
 all-read : tie.Need-returns-4
 all-read c =
-    let rules = c .before .before .before .before .before in
+    let rules = rules-read (c .before) in
     let read = sym (c .before .before .before .counts .given .1) ∙ rules .read-rules .ensures in
     all-pass _ _ _ (rules .before .before .check-alphabet .ensures) (rules .before .if1 .left) read (c .before .check-automaton .ensures) (c .if2 .left)
 

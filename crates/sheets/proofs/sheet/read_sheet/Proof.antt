@@ -24,13 +24,13 @@ contents-join-requires : tie.Need-contents-join-requires
 contents-join-requires c κs = search needs
 
 -- past the first test the length fits, past the second the contents join
-abbrev sheet : tie.Else3 → List ℕ
-sheet c = now (c .before .before .before .before .before .args .sheet)
+abbrev sheet : tie.After-contents-join → List ℕ
+sheet c = now (c .before .before .before .before .args .sheet)
 
-fits : (c : tie.After-contents-join) → outside 12 1832 (length (now (c .before .before .before .before .args .sheet))) ≡ false
+fits : (c : tie.After-contents-join) → outside 12 1832 (length (sheet c)) ≡ false
 fits c = rw (le-ltb _ _ (c .before .before .if1 .left), c .before .if2 .left)
 
-joined : (c : tie.Else3) → joins (sheet c) ≡ true
+joined : (c : tie.Else3) → joins (sheet (c .before)) ≡ true
 joined c = sym (c .before .contents-join .ensures) ∙ not-false _ (c .if3 .left)
 
 returns-2 : tie.Need-returns-2
@@ -50,7 +50,7 @@ word-requires c κs = search needs
 
 -- where the bodies are read, nothing is refused of the sheet
 known : (c : tie.After-counts) → let test = c .before .before .before in
-    BodiesRead (sheet test) (fits (test .before)) (joined test) (c .counts .given .0 .0)
+    BodiesRead (sheet (test .before)) (fits (test .before)) (joined test) (c .counts .given .0 .0)
 known c =
     let read = c .before .before in
     bodies-read _ (fits (read .before .before)) (joined (read .before)) _ (sym (c .counts .given .1) ∙ read .read-joined .ensures)
