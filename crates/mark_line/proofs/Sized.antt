@@ -62,7 +62,7 @@ parts sheet form m =
     }
 
 -- an answer of size as a number
-abbrev numberOf : Answer Size → ℕ
+abbrev pub numberOf : Answer Size → ℕ
 numberOf (refused n) = 0
 numberOf (answered (exact n)) = n
 numberOf (answered over) = largest

@@ -1,41 +1,61 @@
 -- `mark_line::line::size_of` meets its contract.
-use mathlib.Core.Path.{sym, ap, _∙_}
+use mathlib.Core.Path.{_≡_, sym, ap, _∙_}
 use Prim.Native.Nat.{ℕ, _*_}
 use native.Mathlib.Omega.{arith}
 use lib.ListN.{length-replicate}
 use lib.Seq.{length-take-le}
 use borrow.Author.Needs.{needs}
 use Rattle.sizing.specs.Size.{answerOfSize}
+use Rattle.terms.specs.Answer.{Answer}
+use Rattle.terms.specs.Sheet.{sheetTree}
 use Rattle.terms.specs.FormBytes.{formLength, mostFormRules}
+use Rattle.terms.specs.Count.{Size, sizeOf, capped}
 use Rattle.terms.specs.Calls.{countsPerRule}
-use Rattle.mark_line.proofs.Sized.{parts, size-is}
+use Rattle.mark_line.proofs.Sized.{Parts, parts, numberOf, size-is}
 use Rattle.mark_line.proofs.line.size_of.Statement.{statement}
 use Rattle.mark_line.proofs.line.size_of.Tie as tie
+
+abbrev begin : tie.After-word → tie.Start
+begin c = c .before .before .before
+
+known : (c : tie.After-word) → let a = begin c .args in Parts (a .sheet .now) (a .form .now)
+known c = parts _ _ (begin c .pre)
+
+-- the length of the form is known, seen from behind the call
+abbrev measured : tie.After-size → tie.After-form-length
+measured c = c .before .before .before .before
+
+-- the size, by what the call answered
+sized : (c : tie.After-size) {e : Answer Size} → answerOfSize (c .size .result) ≡ e → numberOf e ≡ capped (sizeOf (sheetTree (begin (measured c .before .before) .args .sheet .now)))
+sized c is =
+    let form = measured c in
+    let counted = form .before in
+    let read = counted .before in
+    size-is _ _ (known read) _ _ _ _ (read .word .ensures .0) (form .form-length .ensures ∙ ap formLength (counted .rule-count .ensures .0)) (length-replicate {A = ℕ} (countsPerRule * mostFormRules) 0) (c .size .ensures .0) is
 
 word-requires : tie.Need-word-requires
 word-requires c κs = omega (arith, parts _ _ (c .before .before .pre) .long)
 
 rule-count-requires : tie.Need-rule-count-requires
-rule-count-requires c κs = parts _ _ (c .before .before .before .pre) .head
+rule-count-requires c κs = known c .head
 
 form-length-requires : tie.Need-form-length-requires
 form-length-requires c κs = search needs
 
 sub-size : tie.Need-sub-size
-sub-size c = omega (arith, parts _ _ (c .before .before .before .before .before .pre) .first, c .before .before .word .ensures .0)
+sub-size c = omega (arith, known (c .before .before) .first, c .before .before .word .ensures .0)
 
 part-size-start : tie.Need-part-size-start
-part-size-start c = omega (arith, parts _ _ (c .before .before .before .before .before .pre) .first, c .before .before .word .ensures .0)
+part-size-start c = omega (arith, known (c .before .before) .first, c .before .before .word .ensures .0)
 
 part-size-end : tie.Need-part-size-end
-part-size-end c = omega (arith, parts _ _ (c .before .before .before .before .before .pre) .last, c .before .before .word .ensures .0)
+part-size-end c = omega (arith, known (c .before .before) .last, c .before .before .word .ensures .0)
 
 slice-aggregate-size : tie.Need-slice-aggregate-size
 slice-aggregate-size c =
     let asked = c .before .before in
     let counted = asked .before in
-    let start = counted .before .before .before .before in
-    sym (length-take-le _ (start .args .form .now) (rw (asked .form-length .ensures, counted .rule-count .ensures .0) (parts _ _ (start .pre) .end)))
+    sym (length-take-le _ (begin (counted .before) .args .form .now) (rw (asked .form-length .ensures, counted .rule-count .ensures .0) (known (counted .before) .end)))
 
 slice-aggregate-size-2 : tie.Need-slice-aggregate-size-2
 slice-aggregate-size-2 c = search needs
@@ -53,31 +73,13 @@ enum-told-2 : tie.Need-enum-told-2
 enum-told-2 c = search needs
 
 returns : tie.Need-returns
-returns c =
-    let call = c .before .before .before in
-    let asked = call .before .before .before .before in
-    let counted = asked .before in
-    let read = counted .before in
-    let start = read .before .before .before in
-    size-is (start .args .sheet .now) (start .args .form .now) (parts _ _ (start .pre)) _ _ _ _ (read .word .ensures .0) (asked .form-length .ensures ∙ ap formLength (counted .rule-count .ensures .0)) (length-replicate {A = ℕ} (countsPerRule * mostFormRules) 0) (call .size .ensures .0) (ap answerOfSize (c .enum-told .given .1))
+returns c = sized (c .before .before .before) (ap answerOfSize (c .enum-told .given .1))
 
 returns-2 : tie.Need-returns-2
-returns-2 c =
-    let call = c .before .before .before .before in
-    let asked = call .before .before .before .before in
-    let counted = asked .before in
-    let read = counted .before in
-    let start = read .before .before .before in
-    size-is (start .args .sheet .now) (start .args .form .now) (parts _ _ (start .pre)) _ _ _ _ (read .word .ensures .0) (asked .form-length .ensures ∙ ap formLength (counted .rule-count .ensures .0)) (length-replicate {A = ℕ} (countsPerRule * mostFormRules) 0) (call .size .ensures .0) (ap answerOfSize (c .before .nodes .given .1))
+returns-2 c = sized (c .before .before .before .before) (ap answerOfSize (c .before .nodes .given .1))
 
 returns-3 : tie.Need-returns-3
-returns-3 c =
-    let call = c .before .before .before in
-    let asked = call .before .before .before .before in
-    let counted = asked .before in
-    let read = counted .before in
-    let start = read .before .before .before in
-    size-is (start .args .sheet .now) (start .args .form .now) (parts _ _ (start .pre)) _ _ _ _ (read .word .ensures .0) (asked .form-length .ensures ∙ ap formLength (counted .rule-count .ensures .0)) (length-replicate {A = ℕ} (countsPerRule * mostFormRules) 0) (call .size .ensures .0) (ap answerOfSize (c .enum-told2 .given .1))
+returns-3 c = sized (c .before .before .before) (ap answerOfSize (c .enum-told2 .given .1))
 
 pub size-of-spec : {M : Type 1} → statement M
 size-of-spec =
