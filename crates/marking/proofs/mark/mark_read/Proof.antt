@@ -8,15 +8,26 @@ use Rattle.marking.proofs.Marked.{automaton-part, automaton-long, evalu
 use Rattle.marking.proofs.mark.mark_read.Statement.{statement}
 use Rattle.marking.proofs.mark.mark_read.Tie as tie
 
+abbrev begin : tie.After-struct-known → tie.Start
+begin c = c .before .before .before .before
+
+-- the layout is known, and the form is not yet made
+abbrev laid-out : tie.After-slice-known3 → tie.After-struct-known
+laid-out c = c .before .before .before .before
+
+-- the form is made, and nothing is yet given to evaluation
+abbrev made : tie.After-evaluate-checked-arg4 → tie.After-slice-known3
+made c = c .before .before .before .before
+
 -- what is known of the sheet
-known : (c : tie.After-struct-known) → SheetRead (c .before .before .before .before .args .sheet .now) (c .before .before .before .before .args .layout)
-known c = sheet-read _ _ (c .before .before .before .before .pre .0 .read)
+known : (c : tie.After-struct-known) → SheetRead (begin c .args .sheet .now) (begin c .args .layout)
+known c = sheet-read _ _ (begin c .pre .0 .read)
 
 add-rules : tie.Need-add-rules
-add-rules c = omega (arith, parts-there (known c), c .before .before .before .before .good)
+add-rules c = omega (arith, parts-there (known c), begin c .good)
 
 make-read-requires : tie.Need-make-read-requires
-make-read-requires c κs = c .before .before .before .before .before .pre .0
+make-read-requires c κs = begin (c .before) .pre .0
 
 sub-evaluate-checked : tie.Need-sub-evaluate-checked
 sub-evaluate-checked c = search needs
@@ -25,13 +36,13 @@ part-evaluate-checked-start : tie.Need-part-evaluate-checked-start
 part-evaluate-checked-start c = search needs
 
 part-evaluate-checked-end : tie.Need-part-evaluate-checked-end
-part-evaluate-checked-end c = omega (arith, parts-there (known (c .before .before .before .before)))
+part-evaluate-checked-end c = omega (arith, parts-there (known (laid-out c)))
 
 sub-evaluate-checked-2 : tie.Need-sub-evaluate-checked-2
-sub-evaluate-checked-2 c = omega (arith, parts-there (known (c .before .before .before .before .before)))
+sub-evaluate-checked-2 c = omega (arith, parts-there (known (laid-out (c .before))))
 
 part-evaluate-checked-start-2 : tie.Need-part-evaluate-checked-start-2
-part-evaluate-checked-start-2 c = omega (arith, parts-there (known (c .before .before .before .before .before)))
+part-evaluate-checked-start-2 c = omega (arith, parts-there (known (laid-out (c .before))))
 
 part-evaluate-checked-end-2 : tie.Need-part-evaluate-checked-end-2
 part-evaluate-checked-end-2 c = search needs
@@ -48,22 +59,21 @@ slice-aggregate-evaluate-checked c =
 
 evaluate-checked-requires : tie.Need-evaluate-checked-requires
 evaluate-checked-requires c κs =
-    let made = c .before .before .before .before .before .before in
-    let start = made .before .before in
-    let read = known start in
-    evaluable read (made .make-read .ensures) (alphabet-part read) (automaton-part read) _ (start .before .before .before .before .pre .1)
+    let form = made c in
+    let read = known (laid-out form) in
+    evaluable read (form .before .before .make-read .ensures) (alphabet-part read) (automaton-part read) _ (begin (laid-out form) .pre .1)
 
 sub-verdict : tie.Need-sub-verdict
-sub-verdict c = omega (arith, parts-there (known (c .before .before .before .before .before .before .before .before .before .before .before)))
+sub-verdict c = omega (arith, parts-there (known (laid-out (made (c .before .before .before)))))
 
 part-verdict-start : tie.Need-part-verdict-start
-part-verdict-start c = omega (arith, parts-there (known (c .before .before .before .before .before .before .before .before .before .before .before)))
+part-verdict-start c = omega (arith, parts-there (known (laid-out (made (c .before .before .before)))))
 
 part-verdict-end : tie.Need-part-verdict-end
 part-verdict-end c = search needs
 
 verdict-requires : tie.Need-verdict-requires
-verdict-requires c κs = automaton-long (known (c .before .before .before .before .before .before .before .before .before .before .before .before))
+verdict-requires c κs = automaton-long (known (laid-out (made (c .before .before .before .before))))
 
 same-length : tie.Need-same-length
 same-length c = search needs
@@ -74,9 +84,9 @@ same-length-2 c = search needs
 returns : tie.Need-returns
 returns c =
     let call = c .before .before .before .before in
-    let made = call .before .before .before .before .before .before .before in
-    let read = known (made .before .before) in
-    let written = made .make-read .ensures in (
+    let form = made (call .before) in
+    let read = known (laid-out form) in
+    let written = form .before .before .make-read .ensures in (
       verdict-is read written (alphabet-part read) (automaton-part read) (call .evaluate-checked .ensures .0) (c .verdict .ensures),
       slices-left read written (alphabet-part read) (automaton-part read) _ (call .evaluate-checked .ensures .1),
     )

@@ -18,8 +18,11 @@ enum-known-n c = search needs
 enum-known-layout : tie.Need-enum-known-layout
 enum-known-layout c = search needs
 
+abbrev begin : tie.After-read-sheet → tie.Start
+begin c = c .before .before .before .before
+
 -- the sheet that was read
-known : (c : tie.After-layout) → SheetRead (now (c .before .before .before .before .before .before .args .sheet)) (c .layout .given .0 .0)
+known : (c : tie.After-layout) → SheetRead (now (begin (c .before .before) .args .sheet)) (c .layout .given .0 .0)
 known c = sheet-read _ _ (sym (c .before .before .read-sheet .ensures) ∙ ap answerOfReading (c .layout .given .1))
 
 mul-if1 : tie.Need-mul-if1
