@@ -7,6 +7,14 @@ use Rattle.marking.proofs.Marked.{refuses, marks}
 use Rattle.tallies.proofs.mark.mark.Statement.{statement}
 use Rattle.tallies.proofs.mark.mark.Tie as tie
 
+-- the sheet is marked, seen from where the slices are given back
+abbrev marked : tie.After-slice-known4 → tie.After-mark-sheet
+marked c = c .before .before .before .before
+
+-- the sheet is marked only where every count can move on
+abbrev free : tie.After-mark-sheet → tie.Else1
+free c = c .before .before .before
+
 is-full-requires : tie.Need-is-full-requires
 is-full-requires c κs = search needs
 
@@ -21,8 +29,8 @@ mark-sheet-requires c κs = search needs
 
 count-requires : tie.Need-count-requires
 count-requires c κs =
-    let free = c .before .before .before .before .before .before .before in
-    sym (free .before .is-full .ensures) ∙ free .if1 .left
+    let test = free (marked c) in
+    sym (test .before .is-full .ensures) ∙ test .if1 .left
 
 same-length : tie.Need-same-length
 same-length c = search needs
@@ -32,9 +40,9 @@ same-length-2 c = search needs
 
 returns-2 : tie.Need-returns-2
 returns-2 c =
-    let call = c .before .before .before .before .before in
-    let free = call .before .before .before in
-    let same = not-full _ _ _ _ (sym (free .before .is-full .ensures) ∙ free .if1 .left) in
+    let call = marked (c .before) in
+    let test = free call in
+    let same = not-full _ _ _ _ (sym (test .before .is-full .ensures) ∙ test .if1 .left) in
     let (answer, slices) = marks _ _ _ _ same (call .mark-sheet .ensures .0) (call .mark-sheet .ensures .1) in
     (answer, (c .count .ensures, slices))
 
