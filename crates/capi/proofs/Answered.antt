@@ -1,14 +1,9 @@
 -- What an answer says of its number and of the result behind the pointer (document 01: a refusal is its number only).
-use mathlib.Core.Path.{_≡_, refl, subst}
+use mathlib.Core.Path.{_≡_, refl}
 use Prim.Native.Nat.{ℕ, zero, suc}
 use Rattle.terms.specs.Answer.{Answer, refused, answered, answer}
 use Rattle.terms.specs.Count.{Size}
 use Rattle.capi.specs.Result.{resultAfter, sizeNumber}
-
--- the number is the refusal's, and x stands behind the pointer where b stood
-pub record Says (n x b refusal value : ℕ) : Type 0 where
-  pub number : n ≡ refusal
-  pub result : x ≡ resultAfter refusal value b
 
 abbrev pub numberOf : {A : Type 0} → Answer A → ℕ
 numberOf (refused n) = n
@@ -19,14 +14,18 @@ abbrev resultOf : {A : Type 0} → (A → ℕ) → Answer A → ℕ → ℕ
 resultOf f (refused n) b = b
 resultOf f (answered x) b = f x
 
-says-by : {A : Type 0} (f : A → ℕ) (k : ℕ) (v : A) (b : ℕ) (r : Answer A) → answer k v ≡ r → Says (numberOf r) (resultOf f r b) b k (f v)
-says-by {A} f zero v b r e = subst (λ (x : Answer A). Says (numberOf x) (resultOf f x b) b zero (f v)) e (record { number = refl; result = refl })
-says-by {A} f (suc k) v b r e = subst (λ (x : Answer A). Says (numberOf x) (resultOf f x b) b (suc k) (f v)) e (record { number = refl; result = refl })
+-- a result of a call that is told to be y: the number is the refusal's, and what else is promised is had from what stands behind the pointer where b stood
+module _ {R A P : Type 0} (f : A → ℕ) (answerOf : R → Answer A) {x y : R} (told : x ≡ y) where
+  says-by : (k : ℕ) (v : A) (b : ℕ) → answerOf x ≡ answer k v → (resultOf f (answerOf y) b ≡ resultAfter k (f v) b → P) → (numberOf (answerOf y) ≡ k) × P
+  says-by zero v b e rest = rw (← told, e) (refl, rest (rw (← told, e)))
+  says-by (suc k) v b e rest = rw (← told, e) (refl, rest (rw (← told, e)))
 
 -- a number as it is
-pub says : (k v b : ℕ) (r : Answer ℕ) → answer k v ≡ r → Says (numberOf r) (resultOf (λ n. n) r b) b k v
+pub says : {R P : Type 0} (answerOf : R → Answer ℕ) {x y : R} → x ≡ y → (k v b : ℕ) → answerOf x ≡ answer k v
+    → (resultOf (λ n. n) (answerOf y) b ≡ resultAfter k v b → P) → (numberOf (answerOf y) ≡ k) × P
 says = says-by (λ n. n)
 
 -- a size as a number of 64 bits
-pub size-says : (k : ℕ) (s : Size) (b : ℕ) (r : Answer Size) → answer k s ≡ r → Says (numberOf r) (resultOf sizeNumber r b) b k (sizeNumber s)
+pub size-says : {R P : Type 0} (answerOf : R → Answer Size) {x y : R} → x ≡ y → (k : ℕ) (s : Size) (b : ℕ) → answerOf x ≡ answer k s
+    → (resultOf sizeNumber (answerOf y) b ≡ resultAfter k (sizeNumber s) b → P) → (numberOf (answerOf y) ≡ k) × P
 size-says = says-by sizeNumber

@@ -1,12 +1,12 @@
 -- `capi::form_calls::ewf_evaluate` meets its contract: the answer's number, and its value behind the pointer.
-use mathlib.Core.Path.{sym, ap, _∙_}
-use lib.ListN.{length}
 use Rattle.terms.specs.Answer.{answerOfMask}
-use Rattle.terms.specs.Calls.{evaluationRefusal, formMask}
 use borrow.Author.Needs.{needs}
 use Rattle.capi.proofs.Answered.{says}
 use Rattle.capi.proofs.form_calls.ewf_evaluate.Statement.{statement}
 use Rattle.capi.proofs.form_calls.ewf_evaluate.Tie as tie
+
+abbrev called : tie.After-slice-known2 → tie.After-evaluate
+called c = c .before .before
 
 evaluate-requires : tie.Need-evaluate-requires
 evaluate-requires c κs = search needs
@@ -23,10 +23,8 @@ same-length c = search needs
 returns : tie.Need-returns
 returns c =
     let told = c .before in
-    let call = told .before .before .before .before in
-    let given = call .before .before .before .before .before .before .args in
-    let said = says (evaluationRefusal (given .alphabet .now) (given .automaton .now) (given .form .now) (length (given .relations .now))) (formMask (given .alphabet .now) (given .automaton .now) (given .form .now)) (given .mask .now) _ (sym (call .evaluate .ensures .0) ∙ ap answerOfMask (told .n .given .1)) in
-    (said .number, (call .evaluate .ensures .1 .0, said .result))
+    let call = called (told .before .before) in
+    says answerOfMask (told .n .given .1) _ _ _ (call .evaluate .ensures .0) (λ result. (call .evaluate .ensures .1 .0, result))
 
 same-length-2 : tie.Need-same-length-2
 same-length-2 c = search needs
@@ -34,10 +32,8 @@ same-length-2 c = search needs
 returns-2 : tie.Need-returns-2
 returns-2 c =
     let told = c .before in
-    let call = told .before .before .before .before in
-    let given = call .before .before .before .before .before .before .args in
-    let said = says (evaluationRefusal (given .alphabet .now) (given .automaton .now) (given .form .now) (length (given .relations .now))) (formMask (given .alphabet .now) (given .automaton .now) (given .form .now)) (given .mask .now) _ (sym (call .evaluate .ensures .0) ∙ ap answerOfMask (told .states .given .1)) in
-    (said .number, (call .evaluate .ensures .1 .0, said .result))
+    let call = called (told .before .before) in
+    says answerOfMask (told .states .given .1) _ _ _ (call .evaluate .ensures .0) (λ result. (call .evaluate .ensures .1 .0, result))
 
 pub ewf-evaluate-spec : {M : Type 1} → statement M
 ewf-evaluate-spec =

@@ -1,12 +1,12 @@
 -- `capi::form_calls::ewf_label` meets its contract: the answer's number, and its value behind the pointer.
-use mathlib.Core.Path.{sym, ap, _∙_}
-use lib.ListN.{length}
 use Rattle.labelling.specs.Label.{answerOfLabel}
-use Rattle.terms.specs.Calls.{labelRefusal, labelAt}
 use borrow.Author.Needs.{needs}
 use Rattle.capi.proofs.Answered.{says}
 use Rattle.capi.proofs.form_calls.ewf_label.Statement.{statement}
 use Rattle.capi.proofs.form_calls.ewf_label.Tie as tie
+
+abbrev called : tie.After-slice-known2 → tie.After-label
+called c = c .before .before
 
 label-requires : tie.Need-label-requires
 label-requires c κs = search needs
@@ -23,10 +23,8 @@ same-length c = search needs
 returns : tie.Need-returns
 returns c =
     let told = c .before in
-    let call = told .before .before .before .before in
-    let given = call .before .before .before .before .before .args in
-    let said = says (labelRefusal (given .alphabet .now) (given .form .now) (given .position) (length (given .counts .now))) (labelAt (given .alphabet .now) (given .form .now) (given .position)) (given .terminal .now) _ (sym (call .label .ensures .0) ∙ ap answerOfLabel (told .n .given .1)) in
-    (said .number, (call .label .ensures .1, said .result))
+    let call = called (told .before .before) in
+    says answerOfLabel (told .n .given .1) _ _ _ (call .label .ensures .0) (λ result. (call .label .ensures .1, result))
 
 same-length-2 : tie.Need-same-length-2
 same-length-2 c = search needs
@@ -34,10 +32,8 @@ same-length-2 c = search needs
 returns-2 : tie.Need-returns-2
 returns-2 c =
     let told = c .before in
-    let call = told .before .before .before .before in
-    let given = call .before .before .before .before .before .args in
-    let said = says (labelRefusal (given .alphabet .now) (given .form .now) (given .position) (length (given .counts .now))) (labelAt (given .alphabet .now) (given .form .now) (given .position)) (given .terminal .now) _ (sym (call .label .ensures .0) ∙ ap answerOfLabel (told .found .given .1)) in
-    (said .number, (call .label .ensures .1, said .result))
+    let call = called (told .before .before) in
+    says answerOfLabel (told .found .given .1) _ _ _ (call .label .ensures .0) (λ result. (call .label .ensures .1, result))
 
 pub ewf-label-spec : {M : Type 1} → statement M
 ewf-label-spec =

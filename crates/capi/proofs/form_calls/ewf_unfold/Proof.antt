@@ -1,14 +1,12 @@
 -- `capi::form_calls::ewf_unfold` meets its contract: the answer's number, and its value behind the pointer.
-use mathlib.Core.Path.{sym, ap, _∙_}
-use lib.ListN.{length}
 use Rattle.terms.specs.Answer.{answerOfLength}
-use Rattle.terms.specs.FormBytes.{formTree}
-use Rattle.terms.specs.Count.{sizeOf}
-use Rattle.terms.specs.Calls.{unfoldingRefusal}
 use borrow.Author.Needs.{needs}
 use Rattle.capi.proofs.Answered.{says}
 use Rattle.capi.proofs.form_calls.ewf_unfold.Statement.{statement}
 use Rattle.capi.proofs.form_calls.ewf_unfold.Tie as tie
+
+abbrev called : tie.After-slice-known4 → tie.After-unfold
+called c = c .before .before .before .before
 
 unfold-requires : tie.Need-unfold-requires
 unfold-requires c κs = search needs
@@ -28,10 +26,8 @@ same-length-2 c = search needs
 returns : tie.Need-returns
 returns c =
     let told = c .before in
-    let call = told .before .before .before .before .before .before in
-    let given = call .before .before .before .before .before .before .before .args in
-    let said = says (unfoldingRefusal (given .alphabet .now) (given .form .now) (length (given .counts .now)) (length (given .tree .now))) (sizeOf (formTree (given .alphabet .now) (given .form .now))) (given .nodes .now) _ (sym (call .«unfold» .ensures .0) ∙ ap answerOfLength (told .n .given .1)) in
-    (said .number, (call .«unfold» .ensures .1 .0, (call .«unfold» .ensures .1 .1, said .result)))
+    let call = called (told .before .before) in
+    says answerOfLength (told .n .given .1) _ _ _ (call .«unfold» .ensures .0) (λ result. (call .«unfold» .ensures .1 .0, (call .«unfold» .ensures .1 .1, result)))
 
 same-length-3 : tie.Need-same-length-3
 same-length-3 c = search needs
@@ -42,10 +38,8 @@ same-length-4 c = search needs
 returns-2 : tie.Need-returns-2
 returns-2 c =
     let told = c .before in
-    let call = told .before .before .before .before .before .before in
-    let given = call .before .before .before .before .before .before .before .args in
-    let said = says (unfoldingRefusal (given .alphabet .now) (given .form .now) (length (given .counts .now)) (length (given .tree .now))) (sizeOf (formTree (given .alphabet .now) (given .form .now))) (given .nodes .now) _ (sym (call .«unfold» .ensures .0) ∙ ap answerOfLength (told .n2 .given .1)) in
-    (said .number, (call .«unfold» .ensures .1 .0, (call .«unfold» .ensures .1 .1, said .result)))
+    let call = called (told .before .before) in
+    says answerOfLength (told .n2 .given .1) _ _ _ (call .«unfold» .ensures .0) (λ result. (call .«unfold» .ensures .1 .0, (call .«unfold» .ensures .1 .1, result)))
 
 pub ewf-unfold-spec : {M : Type 1} → statement M
 ewf-unfold-spec =

@@ -1,13 +1,12 @@
 -- `capi::sheet_calls::ewf_make_form` meets its contract.
-use mathlib.Core.Path.{sym, ap, _∙_}
-use lib.ListN.{length}
 use Rattle.terms.specs.Answer.{answerOfLength}
-use Rattle.terms.specs.Calls.{makingRefusal}
-use Rattle.making.specs.Making.{formOf}
 use borrow.Author.Needs.{needs}
 use Rattle.capi.proofs.Answered.{says}
 use Rattle.capi.proofs.sheet_calls.ewf_make_form.Statement.{statement}
 use Rattle.capi.proofs.sheet_calls.ewf_make_form.Tie as tie
+
+abbrev called : tie.After-slice-known2 → tie.After-make-form
+called c = c .before .before
 
 make-form-requires : tie.Need-make-form-requires
 make-form-requires c κs = search needs
@@ -24,10 +23,8 @@ same-length c = search needs
 returns : tie.Need-returns
 returns c =
     let told = c .before in
-    let call = told .before .before .before .before in
-    let given = call .before .before .before .before .args in
-    let said = says (makingRefusal (given .sheet .now) (length (given .form .now))) (length (formOf (given .sheet .now))) (given .written .now) _ (sym (call .make-form .ensures .0) ∙ ap answerOfLength (told .n .given .1)) in
-    (said .number, (said .result, call .make-form .ensures .1))
+    let call = called (told .before .before) in
+    says answerOfLength (told .n .given .1) _ _ _ (call .make-form .ensures .0) (λ result. (result, call .make-form .ensures .1))
 
 same-length-2 : tie.Need-same-length-2
 same-length-2 c = search needs
@@ -35,10 +32,8 @@ same-length-2 c = search needs
 returns-2 : tie.Need-returns-2
 returns-2 c =
     let told = c .before in
-    let call = told .before .before .before .before in
-    let given = call .before .before .before .before .args in
-    let said = says (makingRefusal (given .sheet .now) (length (given .form .now))) (length (formOf (given .sheet .now))) (given .written .now) _ (sym (call .make-form .ensures .0) ∙ ap answerOfLength (told .n2 .given .1)) in
-    (said .number, (said .result, call .make-form .ensures .1))
+    let call = called (told .before .before) in
+    says answerOfLength (told .n2 .given .1) _ _ _ (call .make-form .ensures .0) (λ result. (result, call .make-form .ensures .1))
 
 pub ewf-make-form-spec : {M : Type 1} → statement M
 ewf-make-form-spec =

@@ -1,12 +1,12 @@
 -- `capi::tree_calls::ewf_walk` meets its contract: the answer's number, and its value behind the pointer.
-use mathlib.Core.Path.{sym, ap, _∙_}
-use lib.ListN.{length}
 use Rattle.terms.specs.Answer.{answerOfMask}
-use Rattle.terms.specs.Calls.{walkRefusal, walkMask}
 use borrow.Author.Needs.{needs}
 use Rattle.capi.proofs.Answered.{says}
 use Rattle.capi.proofs.tree_calls.ewf_walk.Statement.{statement}
 use Rattle.capi.proofs.tree_calls.ewf_walk.Tie as tie
+
+abbrev called : tie.After-slice-known2 → tie.After-walk
+called c = c .before .before
 
 walk-requires : tie.Need-walk-requires
 walk-requires c κs = search needs
@@ -23,10 +23,8 @@ same-length c = search needs
 returns : tie.Need-returns
 returns c =
     let told = c .before in
-    let call = told .before .before .before .before in
-    let given = call .before .before .before .before .before .before .args in
-    let said = says (walkRefusal (given .alphabet .now) (given .automaton .now) (given .tree .now) (length (given .masks .now))) (walkMask (given .alphabet .now) (given .automaton .now) (given .tree .now)) (given .mask .now) _ (sym (call .walk .ensures .0) ∙ ap answerOfMask (told .n .given .1)) in
-    (said .number, (call .walk .ensures .1, said .result))
+    let call = called (told .before .before) in
+    says answerOfMask (told .n .given .1) _ _ _ (call .walk .ensures .0) (λ result. (call .walk .ensures .1, result))
 
 same-length-2 : tie.Need-same-length-2
 same-length-2 c = search needs
@@ -34,10 +32,8 @@ same-length-2 c = search needs
 returns-2 : tie.Need-returns-2
 returns-2 c =
     let told = c .before in
-    let call = told .before .before .before .before in
-    let given = call .before .before .before .before .before .before .args in
-    let said = says (walkRefusal (given .alphabet .now) (given .automaton .now) (given .tree .now) (length (given .masks .now))) (walkMask (given .alphabet .now) (given .automaton .now) (given .tree .now)) (given .mask .now) _ (sym (call .walk .ensures .0) ∙ ap answerOfMask (told .states .given .1)) in
-    (said .number, (call .walk .ensures .1, said .result))
+    let call = called (told .before .before) in
+    says answerOfMask (told .states .given .1) _ _ _ (call .walk .ensures .0) (λ result. (call .walk .ensures .1, result))
 
 pub ewf-walk-spec : {M : Type 1} → statement M
 ewf-walk-spec =

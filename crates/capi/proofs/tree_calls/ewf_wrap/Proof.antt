@@ -1,13 +1,12 @@
 -- `capi::tree_calls::ewf_wrap` meets its contract: the answer's number, and its value behind the pointer.
-use mathlib.Core.Path.{sym, ap, _∙_}
-use lib.ListN.{length}
 use Rattle.terms.specs.Answer.{answerOfLength}
-use Rattle.terms.specs.Sheet.{wrapped}
-use Rattle.terms.specs.Calls.{wrapRefusal}
 use borrow.Author.Needs.{needs}
 use Rattle.capi.proofs.Answered.{says}
 use Rattle.capi.proofs.tree_calls.ewf_wrap.Statement.{statement}
 use Rattle.capi.proofs.tree_calls.ewf_wrap.Tie as tie
+
+abbrev called : tie.After-slice-known2 → tie.After-wrap
+called c = c .before .before
 
 wrap-requires : tie.Need-wrap-requires
 wrap-requires c κs = search needs
@@ -24,10 +23,8 @@ same-length c = search needs
 returns : tie.Need-returns
 returns c =
     let told = c .before in
-    let call = told .before .before .before .before in
-    let given = call .before .before .before .before .before .before .args in
-    let said = says (wrapRefusal (given .alphabet .now) (given .tree .now) (given .automaton .now) (length (given .sheet .now))) (length (wrapped (given .alphabet .now) (given .tree .now) (given .automaton .now))) (given .written .now) _ (sym (call .wrap .ensures .0) ∙ ap answerOfLength (told .n .given .1)) in
-    (said .number, (call .wrap .ensures .1, said .result))
+    let call = called (told .before .before) in
+    says answerOfLength (told .n .given .1) _ _ _ (call .wrap .ensures .0) (λ result. (call .wrap .ensures .1, result))
 
 same-length-2 : tie.Need-same-length-2
 same-length-2 c = search needs
@@ -35,10 +32,8 @@ same-length-2 c = search needs
 returns-2 : tie.Need-returns-2
 returns-2 c =
     let told = c .before in
-    let call = told .before .before .before .before in
-    let given = call .before .before .before .before .before .before .args in
-    let said = says (wrapRefusal (given .alphabet .now) (given .tree .now) (given .automaton .now) (length (given .sheet .now))) (length (wrapped (given .alphabet .now) (given .tree .now) (given .automaton .now))) (given .written .now) _ (sym (call .wrap .ensures .0) ∙ ap answerOfLength (told .n2 .given .1)) in
-    (said .number, (call .wrap .ensures .1, said .result))
+    let call = called (told .before .before) in
+    says answerOfLength (told .n2 .given .1) _ _ _ (call .wrap .ensures .0) (λ result. (call .wrap .ensures .1, result))
 
 pub ewf-wrap-spec : {M : Type 1} → statement M
 ewf-wrap-spec =
