@@ -6,10 +6,16 @@ use Rattle.capi.proofs.Marked.{short-marked, marked}
 use Rattle.capi.proofs.mark_call.ewf_mark.Statement.{statement}
 use Rattle.capi.proofs.mark_call.ewf_mark.Tie as tie
 
+-- marking and counting, seen from where the slices are given back
+abbrev called : tie.After-slice-known6 → tie.After-mark-and-count
+called c = c .before .before .before .before .before .before
+
+-- the tally has three counts
+abbrev enough : tie.After-mark-and-count → tie.Else1
+enough c = c .before .before .before .before
+
 returns : tie.Need-returns
-returns c =
-    let given = c .before .before .before .before .before .args in
-    short-marked (given .tally .now) (given .sheet .now) (given .form .now) (given .relations .now) (given .verdict .now) (given .mask .now) (c .if1 .taken)
+returns c = short-marked _ _ _ _ _ _ (c .if1 .taken)
 
 mark-and-count-requires : tie.Need-mark-and-count-requires
 mark-and-count-requires c κs = search needs
@@ -35,11 +41,9 @@ same-length-3 c = search needs
 returns-2 : tie.Need-returns-2
 returns-2 c =
     let told = c .before in
-    let call = told .before .before .before .before .before .before .before .before in
-    let enough = call .before .before .before .before in
-    let given = enough .before .before .before .before .before .args in
+    let call = called (told .before .before) in
     let did = call .mark-and-count .ensures in
-    marked (given .tally .now) (given .sheet .now) (given .form .now) (given .relations .now) (given .verdict .now) (given .mask .now) (enough .if1 .left) _ _ _ _ _ (did .0) (did .1 .0) (did .1 .1) (ap answerOfMark (told .n .given .1))
+    marked _ _ _ _ _ _ (enough call .if1 .left) _ _ _ _ _ (did .0) (did .1 .0) (did .1 .1) (ap answerOfMark (told .n .given .1))
 
 same-length-4 : tie.Need-same-length-4
 same-length-4 c = search needs
@@ -53,11 +57,9 @@ same-length-6 c = search needs
 returns-3 : tie.Need-returns-3
 returns-3 c =
     let told = c .before in
-    let call = told .before .before .before .before .before .before .before .before in
-    let enough = call .before .before .before .before in
-    let given = enough .before .before .before .before .before .args in
+    let call = called (told .before .before) in
     let did = call .mark-and-count .ensures in
-    marked (given .tally .now) (given .sheet .now) (given .form .now) (given .relations .now) (given .verdict .now) (given .mask .now) (enough .if1 .left) _ _ _ _ _ (did .0) (did .1 .0) (did .1 .1) (ap answerOfMark (told .states .given .1))
+    marked _ _ _ _ _ _ (enough call .if1 .left) _ _ _ _ _ (did .0) (did .1 .0) (did .1 .1) (ap answerOfMark (told .states .given .1))
 
 same-length-7 : tie.Need-same-length-7
 same-length-7 c = search needs
@@ -71,11 +73,9 @@ same-length-9 c = search needs
 returns-4 : tie.Need-returns-4
 returns-4 c =
     let told = c .before in
-    let call = told .before .before .before .before .before .before .before .before in
-    let enough = call .before .before .before .before in
-    let given = enough .before .before .before .before .before .args in
+    let call = called (told .before .before) in
     let did = call .mark-and-count .ensures in
-    marked (given .tally .now) (given .sheet .now) (given .form .now) (given .relations .now) (given .verdict .now) (given .mask .now) (enough .if1 .left) _ _ _ _ _ (did .0) (did .1 .0) (did .1 .1) (ap answerOfMark (told .states2 .given .1))
+    marked _ _ _ _ _ _ (enough call .if1 .left) _ _ _ _ _ (did .0) (did .1 .0) (did .1 .1) (ap answerOfMark (told .states2 .given .1))
 
 pub ewf-mark-spec : {M : Type 1} → statement M
 ewf-mark-spec =

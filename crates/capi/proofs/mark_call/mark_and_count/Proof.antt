@@ -10,6 +10,13 @@ use Rattle.capi.proofs.Marked.{three-set}
 use Rattle.capi.proofs.mark_call.mark_and_count.Statement.{statement}
 use Rattle.capi.proofs.mark_call.mark_and_count.Tie as tie
 
+abbrev begin : tie.After-mark → tie.Start
+begin c = c .before .before .before .before .before .before .before .before .before .before
+
+-- the sheet is marked, seen from where the counts are written
+abbrev marked : tie.After-moved → tie.After-mark
+marked c = c .before .before .before .before .before
+
 slice-read-t10 : tie.Need-slice-read-t10
 slice-read-t10 c = search needs
 
@@ -42,8 +49,8 @@ same-length-3 c = simp length-set
 
 returns : tie.Need-returns
 returns c =
-    let call = c .before .before .before .before .before in
-    let start = call .before .before .before .before .before .before .before .before .before .before in
+    let call = marked c in
+    let start = begin call in
     let tally = start .args .tally .now in
     let moved = three-set _ _ _ tally (start .pre) ∙ ap (λ (t : Tally). counts t ++ drop 3 tally) (call .mark .ensures .1 .0) in
     (call .mark .ensures .0, (moved, call .mark .ensures .1 .1))

@@ -10,6 +10,9 @@ use Rattle.capi.proofs.RuleRead.{reading-said}
 use Rattle.capi.proofs.rule_calls.ewf_read_rule.Statement.{statement}
 use Rattle.capi.proofs.rule_calls.ewf_read_rule.Tie as tie
 
+abbrev begin : tie.Else1 → tie.Start
+begin c = c .before .before .before .before
+
 check-opening-requires : tie.Need-check-opening-requires
 check-opening-requires c κs = search needs
 
@@ -35,7 +38,7 @@ enum-known-read : tie.Need-enum-known-read
 enum-known-read c = search needs
 
 write-numbers-requires : tie.Need-write-numbers-requires
-write-numbers-requires c κs = c .before .before .before .before .before .if1 .left
+write-numbers-requires c κs = search needs
 
 returns-3 : tie.Need-returns-3
 returns-3 c =
@@ -51,8 +54,7 @@ returns-4 c =
     let writes = c .before .before in
     let told = writes .before .before .before in
     let call = told .before .before in
-    let given = call .before .before .before .before .before .args in
-    let said = reading-said _ _ _ (given .rule .now) _ (call .before .if1 .left) (sym (call .read-number .ensures) ∙ ap answerOfRule (told .read .given .1)) in
+    let said = reading-said _ _ _ (begin (call .before) .args .rule .now) _ (call .before .if1 .left) (sym (call .read-number .ensures) ∙ ap answerOfRule (told .read .given .1)) in
     (said .0, writes .write-numbers .ensures ∙ said .1)
 
 pub ewf-read-rule-spec : {M : Type 1} → statement M
