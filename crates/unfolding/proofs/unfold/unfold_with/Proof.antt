@@ -52,7 +52,7 @@ abbrev fits : tie.After-write-tree → tie.Else1
 fits c = c .before .before .before
 
 count-nodes-requires : tie.Need-count-nodes-requires
-count-nodes-requires c κs = let (v, n, low, room, work) = c .before .before .before .before .before .before .pre in (v, n, work)
+count-nodes-requires c κs = search needs
 
 own-of-requires : tie.Need-own-of-requires
 own-of-requires c κs = let call = c .before .before .before in counts-there (known call) _ (start-below (begin call))
