@@ -14,10 +14,10 @@
  * where none writes what another one is given.
  *
  * Stack. The most bytes that each call was seen to take, on the inputs of link/stack.c, which go deepest; link/stack measures them anew.
- *   ewf_make_form 10,900    ewf_mark 11,092      ewf_evaluate 3,304     ewf_size 152     ewf_label 33,016
+ *   ewf_make_form 10,900    ewf_mark 11,076      ewf_evaluate 3,304     ewf_size 152     ewf_label 33,016
  *   ewf_read_rule 56        ewf_unfold 329,760   ewf_walk 524,924       ewf_wrap 216
  * Unfolding takes 144 bytes for each level of a form's rules, the walk 128 for each level of its tree. No other call goes deeper with
- * what it is given, save making and marking, which take 8,196 to 8,500 and 8,404 to 8,708 on the sheets W, K7 and billions of samples/. */
+ * what it is given, save making and marking, which take 8,212 to 8,516 and 8,388 to 8,692 on the sheets W, K7 and billions of samples/. */
 #ifndef EWERFLINT_H
 #define EWERFLINT_H
 
@@ -28,7 +28,7 @@
 extern "C" {
 #endif
 
-/* The refusals of document 01, by number. */
+/* The refusals of documents 01 and 02, by number. */
 enum ewf_refusal {
     EWF_NOT_REFUSED = 0,
     EWF_SHEET_LENGTH = 1,      /* a sheet under 12 or over 1,832 bytes */
@@ -55,7 +55,8 @@ enum ewf_refusal {
     EWF_TREE_LONG = 22,        /* a tree is too long */
     EWF_TREE = 23,             /* the bytes are not one tree over the alphabet */
     EWF_SHEET_SHORT = 24,      /* the slice for the sheet is too short */
-    EWF_TALLY_FULL = 25        /* some count of the tally is 4,294,967,295 */
+    EWF_TALLY_FULL = 25,       /* some count of the candidate is 4,294,967,295 */
+    EWF_CANDIDATE = 26         /* the number of a candidate is over 15 */
 };
 
 /* The lengths that calls ask for, in elements, by G and R. */
@@ -65,7 +66,13 @@ enum ewf_refusal {
 #define EWF_RELATIONS(R) ((size_t)(R))                 /* the numbers that evaluation asks for */
 #define EWF_COUNTS(R) (2 * (size_t)(R))                /* the numbers that size, label and unfolding ask for */
 #define EWF_RULE_NUMBERS 7                             /* the numbers of a rule that is read */
-#define EWF_TALLY_COUNTS 3                             /* the counts of a tally: accepted, declined, turned away */
+#define EWF_CANDIDATES 16                              /* the candidates of a tally, from 0 to 15 */
+#define EWF_TALLY_COUNTS (3 * EWF_CANDIDATES)          /* the counts of a tally: accepted, declined, turned away of each */
+
+/* Where the counts of a candidate stand in a tally. */
+#define EWF_ACCEPTED(candidate) (3 * (size_t)(candidate))
+#define EWF_DECLINED(candidate) (3 * (size_t)(candidate) + 1)
+#define EWF_TURNED_AWAY(candidate) (3 * (size_t)(candidate) + 2)
 
 /* R of a form that was made, or that some call did not refuse. */
 #define EWF_RULES(form) ((size_t)(form)[0] + 256 * (size_t)(form)[1])
@@ -146,13 +153,17 @@ uint8_t ewf_wrap(const uint8_t *alphabet, size_t alphabet_length,
                  uint8_t *sheet, size_t sheet_length,
                  size_t *length);
 
-/* Marks a sheet: verdict 1 accepted, 0 declined, and the mask. It ends as form making and evaluation leave form and relations.
- * form: EWF_FORM_ASKED(G) bytes; relations: EWF_FORM_RULES(G) numbers, EWF_MOST_RULES at most; tally: EWF_TALLY_COUNTS counts, each of
- * which goes up by one with its answer: accepted, declined, turned away (1 to 16).
- * Refused by 19 (a tally that is too short, before all else), 25, 1 to 16 (the sheet), 17, 19 (relations). */
+/* Marks a sheet of a candidate: verdict 1 accepted, 0 declined, and the mask. It ends as form making and evaluation leave form and
+ * relations.
+ * form: EWF_FORM_ASKED(G) bytes; relations: EWF_FORM_RULES(G) numbers, EWF_MOST_RULES at most; candidate: below EWF_CANDIDATES;
+ * tally: EWF_TALLY_COUNTS counts, of which that of the candidate and the answer goes up by one: accepted, declined, turned away (1 to 16).
+ * The counts of other candidates are neither looked at nor changed.
+ * Refused by 19 (a tally that is too short, before all else), 26 (the candidate), 25 (its counts), 1 to 16 (the sheet), 17,
+ * 19 (relations). */
 uint8_t ewf_mark(const uint8_t *sheet, size_t sheet_length,
                  uint8_t *form, size_t form_length,
                  uint64_t *relations, size_t relations_length,
+                 size_t candidate,
                  uint32_t *tally, size_t tally_length,
                  uint8_t *verdict, uint8_t *mask);
 

@@ -16,8 +16,8 @@ static const uint8_t W[58] = {
     0x01, 0x00, 0x00, 0x00, 0xFF, 0xFF,
 };
 
-/* The right-side nodes of W's three rules, where W's alphabet and automaton lie, and room for its tree. */
-enum { NODES = 3 + 4 + 4, ALPHABET = 12, TERMINALS = 3, AUTOMATON = 32, ROOM = 16 };
+/* The right-side nodes of W's three rules, where W's alphabet and automaton lie, room for its tree, and the candidate that W is marked for. */
+enum { NODES = 3 + 4 + 4, ALPHABET = 12, TERMINALS = 3, AUTOMATON = 32, ROOM = 16, CANDIDATE = 2 };
 
 static const uint8_t *const alphabet = W + ALPHABET;
 static const uint8_t *const automaton = W + AUTOMATON;
@@ -34,14 +34,15 @@ static int mark_sheet(void)
 {
     uint8_t form[EWF_FORM_ASKED(NODES)];
     uint64_t relations[EWF_FORM_RULES(NODES)];
-    uint32_t tally[EWF_TALLY_COUNTS] = {0, 0, 0};
+    uint32_t tally[EWF_TALLY_COUNTS] = {0};
     uint8_t verdict = 0;
     uint8_t mask = 0;
 
-    if (refused("mark", ewf_mark(W, sizeof W, form, sizeof form, relations, EWF_FORM_RULES(NODES), tally, EWF_TALLY_COUNTS, &verdict, &mask))) {
+    if (refused("mark", ewf_mark(W, sizeof W, form, sizeof form, relations, EWF_FORM_RULES(NODES), CANDIDATE, tally, EWF_TALLY_COUNTS, &verdict, &mask))) {
         return 1;
     }
-    printf("mark: %s %u, tally %" PRIu32 " %" PRIu32 " %" PRIu32 "\n", verdict == 1 ? "accepted" : "declined", (unsigned)mask, tally[0], tally[1], tally[2]);
+    printf("mark: %s %u, tally of candidate %d: %" PRIu32 " %" PRIu32 " %" PRIu32 "\n", verdict == 1 ? "accepted" : "declined", (unsigned)mask, CANDIDATE,
+           tally[EWF_ACCEPTED(CANDIDATE)], tally[EWF_DECLINED(CANDIDATE)], tally[EWF_TURNED_AWAY(CANDIDATE)]);
     return 0;
 }
 

@@ -28,6 +28,7 @@ static uint8_t masks[EWF_MOST_WALKED];
 static uint8_t sheet[EWF_LONGEST_SHEET];
 static size_t sheet_length;
 static uint8_t written[EWF_LONGEST_FORM];
+static uint32_t tally[EWF_TALLY_COUNTS];
 
 static void require(uint8_t refusal)
 {
@@ -99,11 +100,10 @@ static void *make(void *unused)
 
 static void *mark(void *unused)
 {
-    uint32_t tally[EWF_TALLY_COUNTS] = {0, 0, 0};
     uint8_t verdict;
     uint8_t mask;
 
-    require(ewf_mark(sheet, sheet_length, written, sizeof written, numbers, EWF_MOST_RULES, tally, EWF_TALLY_COUNTS, &verdict, &mask));
+    require(ewf_mark(sheet, sheet_length, written, sizeof written, numbers, EWF_MOST_RULES, 0, tally, EWF_TALLY_COUNTS, &verdict, &mask));
     return unused;
 }
 

@@ -59,13 +59,16 @@ pub trait FixedCalls {
 pub trait Engine: FixedCalls {
     fn make_form(&self, sheet: &[u8], form: &mut [u8], written: &mut usize) -> u8;
 
-    /// The tally counts accepted, declined and turned away; the verdict is 1 for accepted.
+    /// Of each candidate in turn the tally counts accepted, declined and turned away; the verdict
+    /// is 1 for accepted.
+    #[expect(clippy::too_many_arguments, reason = "these are the arguments of the C interface")]
     fn mark(
         &self,
         sheet: &[u8],
         form: &mut [u8],
         relations: &mut [u64],
-        tally: &mut [u32; 3],
+        candidate: usize,
+        tally: &mut [u32],
         verdict: &mut u8,
         mask: &mut u8,
     ) -> u8;

@@ -89,6 +89,7 @@ unsafe extern "C" {
         form_length: usize,
         relations: *mut u64,
         relations_length: usize,
+        candidate: usize,
         tally: *mut u32,
         tally_length: usize,
         verdict: *mut u8,
@@ -96,12 +97,14 @@ unsafe extern "C" {
     ) -> u8;
 }
 
-/// A call of the C interface: slices read, plain numbers, slices lent, places of results. A slice
-/// becomes its pointer and its length.
+/// A call of the C interface: slices read, slices lent, plain numbers, more slices lent, places of
+/// results. A slice becomes its pointer and its length.
 macro_rules! call {
     (
         $function:ident(
-            $($read:ident),*; $($number:ident),*; $($lent:ident),*; $($result:ident),*
+            $($read:ident),*;
+            $($lent:ident),*; $($number:ident),*; $($more:ident),*;
+            $($result:ident),*
         )
     ) => {
         // Every slice goes with its own length and every result has a live place, so the engine is
@@ -109,8 +112,9 @@ macro_rules! call {
         unsafe {
             $function(
                 $($read.as_ptr(), $read.len(),)*
-                $($number,)*
                 $($lent.as_mut_ptr(), $lent.len(),)*
+                $($number,)*
+                $($more.as_mut_ptr(), $more.len(),)*
                 $($result,)*
             )
         }
@@ -129,7 +133,7 @@ impl FixedCalls for Ewerflint {
         relations: &mut [u64],
         mask: &mut u8,
     ) -> u8 {
-        call!(ewf_evaluate(alphabet, automaton, form; ; relations; mask))
+        call!(ewf_evaluate(alphabet, automaton, form; relations; ; ; mask))
     }
 
     fn unfold(
@@ -140,11 +144,11 @@ impl FixedCalls for Ewerflint {
         tree: &mut [u8],
         length: &mut usize,
     ) -> u8 {
-        call!(ewf_unfold(alphabet, form; ; counts, tree; length))
+        call!(ewf_unfold(alphabet, form; counts, tree; ; ; length))
     }
 
     fn size(&self, alphabet: &[u8], form: &[u8], counts: &mut [u64], size: &mut u64) -> u8 {
-        call!(ewf_size(alphabet, form; ; counts; size))
+        call!(ewf_size(alphabet, form; counts; ; ; size))
     }
 
     fn label(
@@ -155,11 +159,11 @@ impl FixedCalls for Ewerflint {
         counts: &mut [u64],
         terminal: &mut u8,
     ) -> u8 {
-        call!(ewf_label(alphabet, form; position; counts; terminal))
+        call!(ewf_label(alphabet, form; ; position; counts; terminal))
     }
 
     fn read_rule(&self, alphabet: &[u8], form: &[u8], number: usize, rule: &mut [u16; 7]) -> u8 {
-        call!(ewf_read_rule(alphabet, form; number; rule; ))
+        call!(ewf_read_rule(alphabet, form; ; number; rule; ))
     }
 
     fn walk(
@@ -170,7 +174,7 @@ impl FixedCalls for Ewerflint {
         masks: &mut [u8],
         mask: &mut u8,
     ) -> u8 {
-        call!(ewf_walk(alphabet, automaton, tree; ; masks; mask))
+        call!(ewf_walk(alphabet, automaton, tree; masks; ; ; mask))
     }
 
     fn wrap(
@@ -181,13 +185,13 @@ impl FixedCalls for Ewerflint {
         sheet: &mut [u8],
         length: &mut usize,
     ) -> u8 {
-        call!(ewf_wrap(alphabet, tree, automaton; ; sheet; length))
+        call!(ewf_wrap(alphabet, tree, automaton; sheet; ; ; length))
     }
 }
 
 impl Engine for Ewerflint {
     fn make_form(&self, sheet: &[u8], form: &mut [u8], written: &mut usize) -> u8 {
-        call!(ewf_make_form(sheet; ; form; written))
+        call!(ewf_make_form(sheet; form; ; ; written))
     }
 
     fn mark(
@@ -195,10 +199,11 @@ impl Engine for Ewerflint {
         sheet: &[u8],
         form: &mut [u8],
         relations: &mut [u64],
-        tally: &mut [u32; 3],
+        candidate: usize,
+        tally: &mut [u32],
         verdict: &mut u8,
         mask: &mut u8,
     ) -> u8 {
-        call!(ewf_mark(sheet; ; form, relations, tally; verdict, mask))
+        call!(ewf_mark(sheet; form, relations; candidate; tally; verdict, mask))
     }
 }

@@ -1,4 +1,5 @@
-//! A comparison of the engine with an implementation written from document 01 alone.
+//! A comparison of the engine with an implementation written from document 01 and R-1 of
+//! document 02 alone.
 
 #![deny(unsafe_code)]
 

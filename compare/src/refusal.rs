@@ -1,4 +1,4 @@
-//! Refusals: the numbers of document 01's table.
+//! Refusals: the numbers of document 01's table, and 26 of document 02.
 
 /// A refusal's number.
 #[derive(Clone, Copy, Debug, PartialEq, Eq)]
@@ -7,8 +7,8 @@ pub struct Refusal(pub u8);
 /// What a call answers, or the refusal it gives.
 pub type Answer<T> = Result<T, Refusal>;
 
-/// The highest number in the table.
-pub const LAST: u8 = 25;
+/// The highest number.
+pub const LAST: u8 = 26;
 
 /// Puts an answer through a pointer as the C interface does: a refusal leaves the place alone.
 pub fn settle<T>(answer: Answer<T>, place: &mut T) -> u8 {

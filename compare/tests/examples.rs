@@ -1,10 +1,14 @@
-//! The reference on the sheets of document 01, beyond what rows of calls show.
+//! The reference on the sheets of the documents, beyond what rows of calls show.
 
+use compare::generate::random::Random;
+use compare::harness::checker::Checker;
 use compare::hex::bytes;
+use compare::idiomatic::Idiomatic;
 use compare::reference::calls;
 use compare::reference::facts::Facts;
 use compare::reference::making;
 use compare::reference::marking;
+use compare::reference::tally::{self, Step, Tally, ZERO};
 use compare::refusal::Refusal;
 use compare::rows;
 
@@ -19,11 +23,72 @@ fn lengths_and_node_counts() {
     assert_eq!(facts("K10 127 h over a").sheet.node_count(), 128);
 }
 
+/// The refusal of the empty sheet, marked without slices.
+fn refused(tally: &Tally, candidate: usize) -> Option<Refusal> {
+    marking::allowed(tally, candidate, &Facts::of(&[]), 0, 0).err()
+}
+
+/// A tally with one full count of candidate 2.
+fn full(way: usize) -> Tally {
+    let mut tally = ZERO;
+    tally[2][way] = u32::MAX;
+    tally
+}
+
 #[test]
-fn a_full_tally_is_told_before_the_sheet() {
-    for full in [[u32::MAX, 0, 0], [0, u32::MAX, 0], [0, 0, u32::MAX]] {
-        assert_eq!(marking::allowed(full, &Facts::of(&[]), 0, 0).err(), Some(Refusal(25)));
+fn a_full_count_is_told_before_the_sheet_and_of_its_candidate_only() {
+    for way in 0..3 {
+        assert_eq!(refused(&full(way), 2), Some(Refusal(25)));
+        assert_eq!(refused(&full(way), 3), Some(Refusal(1)));
     }
+}
+
+#[test]
+fn a_candidate_over_15_is_told_before_a_full_count() {
+    for candidate in [16, 17, 255, 256, 258, 65_536, 1 << 32, usize::MAX] {
+        assert_eq!(refused(&[[u32::MAX; 3]; 16], candidate), Some(Refusal(26)));
+    }
+    assert_eq!(refused(&ZERO, 15), Some(Refusal(1)));
+}
+
+#[test]
+fn steps_are_refused_as_markings_are() {
+    for step in [Step::Accept, Step::Decline, Step::TurnAway] {
+        assert_eq!(tally::step([[u32::MAX; 3]; 16], 16, step), Err(Refusal(26)));
+        for way in 0..3 {
+            assert_eq!(tally::step(full(way), 2, step), Err(Refusal(25)));
+            let mut moved = full(way);
+            moved[3][step as usize] = 1;
+            assert_eq!(tally::step(full(way), 3, step), Ok(moved));
+        }
+    }
+}
+
+#[test]
+fn a_short_tally_is_told_before_all_and_later_counts_are_kept() {
+    let facts = Facts::of(&[]);
+    for candidate in [0, 16] {
+        let mut short = [u32::MAX; 47];
+        let refused = marking::marked(&mut short, candidate, &facts, 0, 0).err();
+        assert_eq!((refused, short), (Some(Refusal(19)), [u32::MAX; 47]));
+    }
+    let mut longer = [7; 51];
+    let refused = marking::marked(&mut longer, 15, &facts, 0, 0).err();
+    assert_eq!((refused, longer[47]), (Some(Refusal(1)), 8));
+    longer[47] = 7;
+    assert_eq!(longer, [7; 51]);
+}
+
+#[test]
+fn the_list_of_five_markings() {
+    let mut checker = Checker::new(&Idiomatic);
+    let answers = checker.named_list(&mut Random::new(1), &rows::sheet("K1 W"));
+    let answers = answers.unwrap_or_else(|difference| panic!("{difference}"));
+    let codes: Vec<u8> = answers.iter().map(|(code, _)| *code).collect();
+    assert_eq!((codes, answers[0].1, answers[1].1), (vec![0, 0, 1, 26, 17], 1, 0));
+    let mut tally = ZERO;
+    (tally[0], tally[1]) = ([1, 0, 1], [0, 1, 0]);
+    assert_eq!((*checker.list.tally(), checker.list.totals().counts), (tally, [1; 3]));
 }
 
 #[test]

@@ -6,8 +6,12 @@ use crate::calls::Engine;
 use crate::idiomatic::Idiomatic;
 use crate::reference::facts::Facts;
 use crate::reference::sheet::Sheet;
+use crate::reference::tally::COUNTS;
 use crate::reference::theorem;
 use std::hint::black_box;
+
+/// The candidate whose markings are timed.
+const CANDIDATE: usize = 11;
 
 /// Both ways are timed in turns, so that a slow spell of the machine falls on both.
 const ROUNDS: usize = 5;
@@ -88,14 +92,21 @@ fn time(engine: &dyn Engine, prepared: &Prepared, call: Call) -> f64 {
     let (alphabet, automaton) = (&facts.sheet.alphabet_body, &facts.sheet.automaton_body);
     let mut bytes = vec![0; facts.form_need().max(4096)];
     let mut numbers = vec![0; facts.relations_need().max(form.len())];
-    let (mut length, mut mask) = (0, 0);
+    let mut tally = [0; COUNTS];
+    let (mut length, mut verdict, mut mask) = (0, 0, 0);
     let tree = facts.tree.as_deref().unwrap_or_default();
     let position = facts.whole.length / 3 * 2;
     best(|| {
         let code = match call {
-            Call::Mark => {
-                engine.mark(sheet, &mut bytes, &mut numbers, &mut [0; 3], &mut 0, &mut mask)
-            }
+            Call::Mark => engine.mark(
+                sheet,
+                &mut bytes,
+                &mut numbers,
+                CANDIDATE,
+                &mut tally,
+                &mut verdict,
+                &mut mask,
+            ),
             Call::MakeForm => engine.make_form(sheet, &mut bytes, &mut length),
             Call::Evaluate => engine.evaluate(alphabet, automaton, form, &mut numbers, &mut mask),
             Call::Label => engine.label(alphabet, form, position, &mut numbers, &mut mask),
@@ -103,7 +114,7 @@ fn time(engine: &dyn Engine, prepared: &Prepared, call: Call) -> f64 {
             Call::Walk => engine.walk(alphabet, automaton, tree, &mut bytes, &mut mask),
         };
         assert_eq!(code, 0);
-        black_box((&bytes, &numbers, length, mask));
+        black_box((&bytes, &numbers, &tally, length, verdict, mask));
     })
 }
 

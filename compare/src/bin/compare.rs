@@ -33,14 +33,14 @@ fn rows_agree() -> bool {
     differences.is_empty()
 }
 
-/// Puts the examples of document 01 and generated cases through the engine.
+/// Puts the examples of the documents and generated cases through the engine.
 fn engine_agrees(cases: u64, seed: u64) -> bool {
     println!("seed {seed}");
     match run(&Ewerflint, cases, seed) {
         Err(failure) => {
             match failure.case {
                 Some(case) => println!("case {case} differs"),
-                None => println!("an example of document 01 differs"),
+                None => println!("an example of the documents differs"),
             }
             print!("{}", failure.difference);
             false

@@ -11,4 +11,5 @@ pub mod random;
 pub mod right_side;
 pub mod shapes;
 pub mod sheets;
+pub mod tallies;
 pub mod trees;

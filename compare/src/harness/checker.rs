@@ -3,6 +3,7 @@
 use super::difference::{Checked, Difference};
 use super::histogram::Histogram;
 use super::lending::Lent;
+use super::list::List;
 use super::request::Request;
 use crate::calls::Engine;
 use crate::reference::fixed_calls::Reference;
@@ -10,15 +11,13 @@ use crate::reference::fixed_calls::Reference;
 pub struct Checker<'e> {
     pub engine: &'e dyn Engine,
     pub histogram: Histogram,
-    /// The engine's tally over the list of markings that started from zero.
-    pub tally: [u32; 3],
-    /// The same list's answers, counted here.
-    pub answers: [u32; 3],
+    /// The list of markings that started from zero.
+    pub list: List,
 }
 
 impl<'e> Checker<'e> {
     pub fn new(engine: &'e dyn Engine) -> Checker<'e> {
-        Checker { engine, histogram: Histogram::new(), tally: [0; 3], answers: [0; 3] }
+        Checker { engine, histogram: Histogram::new(), list: List::new() }
     }
 
     /// Puts a request through the engine and the reference; hands back the code and what was lent

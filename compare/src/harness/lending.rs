@@ -17,6 +17,12 @@ impl Cell for u8 {
     }
 }
 
+impl Cell for u32 {
+    fn of(number: u64) -> u32 {
+        number as u32
+    }
+}
+
 impl Cell for u64 {
     fn of(number: u64) -> u64 {
         number
@@ -56,6 +62,15 @@ impl<T: Cell> Lending<T> {
         Lending { cells }
     }
 
+    /// A slice that begins with these cells, as many of them as it has room for.
+    pub fn holding(random: &mut Random, length: usize, cells: &[T]) -> Lending<T> {
+        let mut lending = Lending::new(random, length);
+        for (cell, held) in lending.slice_mut().iter_mut().zip(cells) {
+            *cell = *held;
+        }
+        lending
+    }
+
     pub fn slice(&self) -> &[T] {
         &self.cells[MARGIN..self.cells.len() - MARGIN]
     }
@@ -81,7 +96,8 @@ pub struct Lent {
     pub bytes: Lending<u8>,
     /// Relations or counts.
     pub numbers: Lending<u64>,
-    pub tally: [u32; 3],
+    /// Only marking is lent one; other calls have none.
+    pub tally: Lending<u32>,
     pub rule: [u16; 7],
     /// Written length.
     pub length: usize,
@@ -96,7 +112,7 @@ impl Lent {
         Lent {
             bytes: Lending::new(random, bytes),
             numbers: Lending::new(random, numbers),
-            tally: [0; 3],
+            tally: Lending::new(random, 0),
             rule: [random.word() as u16; 7],
             length: random.word() as usize,
             size: random.word(),
@@ -110,7 +126,7 @@ impl Lent {
         [
             ("bytes", counted(self.bytes.slice())),
             ("numbers", counted(self.numbers.slice())),
-            ("tally", format!("{:?}", self.tally)),
+            ("tally", counted(self.tally.slice())),
             ("rule", format!("{:?}", self.rule)),
             ("length", self.length.to_string()),
             ("size", self.size.to_string()),

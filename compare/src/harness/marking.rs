@@ -3,64 +3,84 @@
 
 use super::checker::Checker;
 use super::difference::{Checked, Difference};
-use super::lending::Lent;
+use super::lending::{Lending, Lent, enough};
+use super::list::Answered;
+use crate::generate::random::Random;
 use crate::hex::hex;
 use crate::reference::calls;
 use crate::reference::facts::Facts;
 use crate::reference::marking;
+use crate::reference::tally::COUNTS;
 use crate::refusal::{Answer, Refusal};
 
+/// A marking, with what the reference knows of its sheet.
+#[derive(Clone, Copy)]
+pub struct Marking<'a> {
+    pub candidate: usize,
+    pub sheet: &'a [u8],
+    pub facts: &'a Answer<Facts>,
+}
+
+impl Marking<'_> {
+    fn inputs(self) -> Vec<(&'static str, String)> {
+        vec![("candidate", self.candidate.to_string()), ("sheet", hex(self.sheet))]
+    }
+}
+
 impl Checker<'_> {
-    /// Puts a sheet through marking as the next in the list that started from zero.
-    pub fn mark_next(&mut self, sheet: &[u8], facts: &Answer<Facts>, lent: Lent) -> Checked<()> {
-        let lent = Lent { tally: self.tally, ..lent };
-        let (code, found) = self.mark(sheet, facts, &lent)?;
-        self.tally = found.tally;
-        match (code, found.verdict) {
-            (0, 1) => self.answers[0] += 1,
-            (0, _) => self.answers[1] += 1,
-            (1..=16, _) => self.answers[2] += 1,
-            _ => {}
-        }
-        if self.tally == self.answers {
-            return Ok(());
-        }
-        let finding = format!("the list's answers are {:?}, not {:?}", self.answers, self.tally);
-        Err(Difference::told("mark", vec![("sheet", hex(sheet))], &lent, finding))
+    /// Makes a marking as the next in the list that started from zero, with slices of so many
+    /// bytes and numbers; hands back the code and what was lent as the call left it.
+    pub fn mark_next(
+        &mut self,
+        random: &mut Random,
+        call: Marking,
+        [bytes, numbers]: [usize; 2],
+    ) -> Checked<(u8, Lent)> {
+        let length = enough(random, COUNTS);
+        let tally = Lending::holding(random, length, self.list.tally().as_flattened());
+        let lent = Lent { tally, ..Lent::new(random, bytes, numbers) };
+        let (code, found) = self.mark(call, &lent)?;
+        let mut tally = *self.list.tally();
+        tally.as_flattened_mut().copy_from_slice(&found.tally.slice()[..COUNTS]);
+        let answered = Answered {
+            candidate: call.candidate,
+            by_sheet: marking::allowed_by_sheet(call.facts, bytes, numbers),
+            code,
+            verdict: found.verdict,
+            tally,
+        };
+        let added = self.list.add(&answered);
+        added.map_err(|finding| Difference::told("mark", call.inputs(), &lent, finding))?;
+        Ok((code, found))
     }
 
-    /// Puts a sheet through marking; hands back the code and what was lent as the call left it.
-    pub fn mark(
-        &mut self,
-        sheet: &[u8],
-        facts: &Answer<Facts>,
-        lent: &Lent,
-    ) -> Checked<(u8, Lent)> {
+    /// Makes a marking; hands back the code and what was lent as the call left it.
+    pub fn mark(&mut self, call: Marking, lent: &Lent) -> Checked<(u8, Lent)> {
         let mut found = lent.clone();
         let code = self.engine.mark(
-            sheet,
+            call.sheet,
             found.bytes.slice_mut(),
             found.numbers.slice_mut(),
-            &mut found.tally,
+            call.candidate,
+            found.tally.slice_mut(),
             &mut found.verdict,
             &mut found.byte,
         );
-        let (expected_code, expected) = self.expected_marking(sheet, facts, lent);
+        let (expected_code, expected) = self.expected_marking(call, lent);
         self.histogram.add(expected_code);
-        let inputs = || vec![("sheet", hex(sheet))];
+        let inputs = || call.inputs();
         Difference::check("mark", inputs, lent, (expected_code, &expected), (code, &found))?;
         Ok((code, found))
     }
 
-    fn expected_marking(&self, sheet: &[u8], facts: &Answer<Facts>, lent: &Lent) -> (u8, Lent) {
-        let lengths = [lent.bytes.slice().len(), lent.numbers.slice().len()];
-        let answer = marking::allowed(lent.tally, facts, lengths[0], lengths[1]);
+    fn expected_marking(&self, call: Marking, lent: &Lent) -> (u8, Lent) {
+        let (bytes, numbers) = (lent.bytes.slice().len(), lent.numbers.slice().len());
         let mut expected = lent.clone();
-        expected.tally = marking::tally_after(lent.tally, answer);
-        match answer {
+        let tally = expected.tally.slice_mut();
+        match marking::marked(tally, call.candidate, call.facts, bytes, numbers) {
             Err(Refusal(number)) => (number, expected),
             Ok(facts) => {
-                self.write_marks(sheet, facts, &mut expected);
+                self.write_marks(call.sheet, facts, &mut expected);
                 (0, expected)
             }
         }

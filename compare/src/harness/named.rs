@@ -1,4 +1,4 @@
-//! The examples of document 01, put through the calls before any generated input.
+//! The examples of the documents, put through the calls before any generated input.
 
 use super::checker::Checker;
 use super::difference::Checked;
@@ -54,24 +54,12 @@ impl Checker<'_> {
         self.named_tree_calls(random, &w)
     }
 
-    /// The examples of 17, 19 and 25.
-    fn named_markings(&mut self, random: &mut Random, w: &[u8]) -> Checked<()> {
-        let facts = Facts::of(w);
-        self.make_form(w, &facts, &Lent::new(random, 2115, 0))?;
-        self.mark(w, &facts, &Lent::new(random, 2116, 175))?;
-        for full in 0..3 {
-            let mut lent = Lent::new(random, 2116, 176);
-            lent.tally[full] = u32::MAX;
-            self.mark(w, &facts, &lent)?;
-        }
-        Ok(())
-    }
-
-    /// The examples of 18, 20 and 21.
+    /// The examples of 17, 18, 20 and 21.
     fn named_form_calls(&mut self, random: &mut Random, w: &[u8]) -> Checked<()> {
         let alphabet = &Sheet::read(w).expect("a lawful sheet").alphabet_body;
-        let lent = Lent::new(random, 2116, 0);
-        let form = self.make_form(w, &Facts::of(w), &lent)?.unwrap_or_default();
+        let facts = Facts::of(w);
+        self.make_form(w, &facts, &Lent::new(random, 2115, 0))?;
+        let form = self.make_form(w, &facts, &Lent::new(random, 2116, 0))?.unwrap_or_default();
         let count = form.len().saturating_sub(4) / 12;
         let size = Request::Size { alphabet, form: &form[..3.min(form.len())] };
         let unfold = Request::Unfold { alphabet, form: &form };

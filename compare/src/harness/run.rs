@@ -21,7 +21,7 @@ pub fn run(engine: &dyn Engine, cases: u64, seed: u64) -> Result<Histogram, Fail
     run_generated(engine, cases, seed)
 }
 
-/// Puts the examples of document 01 through the engine.
+/// Puts the examples of the documents through the engine.
 pub fn run_named(engine: &dyn Engine, seed: u64) -> Result<Histogram, Box<Difference>> {
     let mut checker = Checker::new(engine);
     checker.named(&mut Random::new(seed))?;

@@ -2,11 +2,13 @@
 
 use super::checker::Checker;
 use super::difference::{Checked, Difference};
-use super::lending::{Lent, around, enough};
-use crate::generate::form_damage;
+use super::lending::{Lending, Lent, around, enough};
+use super::marking::Marking;
 use crate::generate::random::Random;
+use crate::generate::{form_damage, tallies};
 use crate::hex::hex;
 use crate::reference::facts::Facts;
+use crate::reference::tally::COUNTS;
 use crate::refusal::Answer;
 
 impl Checker<'_> {
@@ -59,8 +61,8 @@ impl Checker<'_> {
         Ok(())
     }
 
-    /// Markings with slices that suffice, with slices around the limits, and with tallies that
-    /// are full or nearly so.
+    /// Markings with slices that suffice and with slices around the limits, as the next in the
+    /// list; then with tallies that are full or nearly so, and with slices around a tally's length.
     fn markings(
         &mut self,
         random: &mut Random,
@@ -76,20 +78,17 @@ impl Checker<'_> {
             [enough(random, form), around(random, relations)],
             [around(random, form), around(random, relations)],
         ];
-        for [bytes, numbers] in lengths {
-            let lent = Lent::new(random, bytes, numbers);
-            self.mark_next(sheet, facts, lent)?;
+        for lengths in lengths {
+            let call = Marking { candidate: tallies::candidate(random), sheet, facts };
+            self.mark_next(random, call, lengths)?;
         }
-        let [bytes, numbers] = *random.pick(&lengths);
-        let lent = Lent { tally: tally(random), ..Lent::new(random, bytes, numbers) };
-        self.mark(sheet, facts, &lent).map(drop)
+        for length in [enough(random, COUNTS), around(random, COUNTS)] {
+            let call = Marking { candidate: tallies::candidate(random), sheet, facts };
+            let counts = tallies::counts(random, call.candidate, length);
+            let tally = Lending::holding(random, length, &counts);
+            let [bytes, numbers] = *random.pick(&lengths);
+            self.mark(call, &Lent { tally, ..Lent::new(random, bytes, numbers) })?;
+        }
+        Ok(())
     }
-}
-
-fn tally(random: &mut Random) -> [u32; 3] {
-    let mut tally = [random.word(), random.word(), random.word()].map(|count| count as u32);
-    for count in &mut tally {
-        *count = *random.pick(&[*count, *count, 0, 1, u32::MAX - 1, u32::MAX]);
-    }
-    tally
 }

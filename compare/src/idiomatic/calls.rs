@@ -6,7 +6,7 @@ use super::counts::{counts, label, lend};
 use super::evaluation::evaluate;
 use super::form::{Form, fields};
 use super::making;
-use super::marking::{Tally, mark};
+use super::marking::mark;
 use super::sheet::Sheet;
 use super::unfolding::Unfolder;
 use super::walking::{self, Walker};
@@ -164,14 +164,12 @@ impl Engine for Idiomatic {
         sheet: &[u8],
         form: &mut [u8],
         relations: &mut [u64],
-        tally: &mut [u32; 3],
+        candidate: usize,
+        tally: &mut [u32],
         verdict: &mut u8,
         mask: &mut u8,
     ) -> u8 {
-        let [accepted, declined, turned_away] = *tally;
-        let mut moved = Tally { accepted, declined, turned_away };
-        let answer = mark(sheet, form, relations, &mut moved);
-        *tally = [moved.accepted, moved.declined, moved.turned_away];
+        let answer = mark(sheet, form, relations, candidate, tally);
         let answer = answer.inspect(|mark| *verdict = mark.accepted.into());
         settle(answer.map(|mark| mark.mask), mask)
     }

@@ -5,34 +5,32 @@ use super::making;
 use super::sheet::Sheet;
 use crate::refusal::{Answer, Refusal};
 
-#[derive(Clone, Copy)]
-pub struct Tally {
-    pub accepted: u32,
-    pub declined: u32,
-    pub turned_away: u32,
-}
-
-impl Tally {
-    fn is_full(self) -> bool {
-        [self.accepted, self.declined, self.turned_away].contains(&u32::MAX)
-    }
-}
+const CANDIDATES: usize = 16;
 
 pub struct Mark {
     pub accepted: bool,
     pub mask: u8,
 }
 
+/// The accepted, declined and turned away of a candidate in a lent tally, if none of them is full.
+fn counts(tally: &mut [u32], candidate: usize) -> Answer<&mut [u32; 3]> {
+    let tally = tally.as_chunks_mut().0.get_mut(..CANDIDATES).ok_or(Refusal(19))?;
+    let counts = tally.get_mut(candidate).ok_or(Refusal(26))?;
+    if counts.contains(&u32::MAX) {
+        return Err(Refusal(25));
+    }
+    Ok(counts)
+}
+
 pub fn mark(
     bytes: &[u8],
     form: &mut [u8],
     relations: &mut [u64],
-    tally: &mut Tally,
+    candidate: usize,
+    tally: &mut [u32],
 ) -> Answer<Mark> {
-    if tally.is_full() {
-        return Err(Refusal(25));
-    }
-    let sheet = Sheet::read(bytes).inspect_err(|_| tally.turned_away += 1)?;
+    let [accepted, declined, turned_away] = counts(tally, candidate)?;
+    let sheet = Sheet::read(bytes).inspect_err(|_| *turned_away += 1)?;
     if form.len() < 4 + 192 * sheet.nodes {
         return Err(Refusal(17));
     }
@@ -42,11 +40,8 @@ pub fn mark(
     let made = making::form(&sheet);
     made.write(form);
     let mask = evaluate(&sheet.automaton, &made, relations);
-    let accepted = mask & sheet.automaton.finals != 0;
-    if accepted {
-        tally.accepted += 1;
-    } else {
-        tally.declined += 1;
-    }
-    Ok(Mark { accepted, mask })
+    let passes = mask & sheet.automaton.finals != 0;
+    let count = if passes { accepted } else { declined };
+    *count += 1;
+    Ok(Mark { accepted: passes, mask })
 }

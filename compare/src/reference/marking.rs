@@ -1,43 +1,29 @@
-//! Marking: what it refuses, and its tally of accepted, declined and turned away.
+//! Marking: what it refuses, and what it does to the tally.
 
 use super::facts::Facts;
 use super::making;
+use super::tally::{self, Step, Tally};
 use crate::refusal::{Answer, Refusal};
 
-/// A step of the tally.
-#[derive(Clone, Copy)]
-pub enum Step {
-    Accept,
-    Decline,
-    TurnAway,
+/// The facts by which a sheet is marked for this candidate with this tally and slices of these
+/// lengths: refusals 26 and 25, then those of sheet and slices.
+pub fn allowed<'f>(
+    tally: &Tally,
+    candidate: usize,
+    facts: &'f Answer<Facts>,
+    form_length: usize,
+    relations_length: usize,
+) -> Answer<&'f Facts> {
+    tally::allowed(tally, candidate)?;
+    allowed_by_sheet(facts, form_length, relations_length)
 }
 
-/// The tally after a step: refusal 25 where a marking would get it.
-pub fn step(tally: [u32; 3], step: Step) -> Answer<[u32; 3]> {
-    if is_full(tally) {
-        return Err(Refusal(25));
-    }
-    let mut moved = tally;
-    moved[step as usize] += 1;
-    Ok(moved)
-}
-
-/// Whether some count is 2^32 - 1.
-fn is_full(tally: [u32; 3]) -> bool {
-    tally.contains(&u32::MAX)
-}
-
-/// The facts by which a sheet is marked with this tally and slices of these lengths: refusal 25,
-/// then 1 to 17, then 19.
-pub fn allowed(
-    tally: [u32; 3],
+/// What sheet and slices say, whatever candidate and tally do: refusals 1 to 17, then 19.
+pub fn allowed_by_sheet(
     facts: &Answer<Facts>,
     form_length: usize,
     relations_length: usize,
 ) -> Answer<&Facts> {
-    if is_full(tally) {
-        return Err(Refusal(25));
-    }
     let facts = making::allowed(facts, form_length)?;
     if relations_length < facts.relations_need() {
         return Err(Refusal(19));
@@ -45,15 +31,38 @@ pub fn allowed(
     Ok(facts)
 }
 
-/// The tally after a marking that is answered so: 1 to 16 are turned away, other refusals move
-/// nothing.
-pub fn tally_after(tally: [u32; 3], answer: Answer<&Facts>) -> [u32; 3] {
-    let mut moved = tally;
+/// The step that counts a marking answered so: 1 to 16 are turned away, other refusals are not
+/// counted.
+pub fn counted_as(answer: Answer<&Facts>) -> Option<Step> {
     match answer {
-        Ok(facts) if facts.accepted() => moved[0] += 1,
-        Ok(_) => moved[1] += 1,
-        Err(Refusal(1..=16)) => moved[2] += 1,
-        Err(_) => {}
+        Ok(facts) if facts.accepted() => Some(Step::Accept),
+        Ok(_) => Some(Step::Decline),
+        Err(Refusal(1..=16)) => Some(Step::TurnAway),
+        Err(_) => None,
+    }
+}
+
+/// The tally after a marking of this candidate that is answered so.
+pub fn tally_after(tally: Tally, candidate: usize, answer: Answer<&Facts>) -> Tally {
+    let mut moved = tally;
+    if let Some(step) = counted_as(answer) {
+        moved[candidate][step as usize] += 1;
     }
     moved
+}
+
+/// Marking as the C interface has it, with a tally in the first 48 counts of a lent slice. Refusal
+/// 19 of a slice that is too short for them comes before all others; later counts are kept.
+pub fn marked<'f>(
+    tally: &mut [u32],
+    candidate: usize,
+    facts: &'f Answer<Facts>,
+    form_length: usize,
+    relations_length: usize,
+) -> Answer<&'f Facts> {
+    let (counts, _) = tally.as_chunks_mut::<3>();
+    let tally = counts.first_chunk_mut::<16>().ok_or(Refusal(19))?;
+    let answer = allowed(tally, candidate, facts, form_length, relations_length);
+    *tally = tally_after(*tally, candidate, answer);
+    answer
 }

@@ -1,5 +1,5 @@
-//! Document 01 in the plainest way: everything is read into trees and lists, and each meaning is
-//! worked out as the document words it. Speed is no aim here.
+//! Document 01, with R-1 of document 02, in the plainest way: everything is read into trees and
+//! lists, and each meaning is worked out as the documents word it. Speed is no aim here.
 
 pub mod alphabet;
 pub mod automaton;
@@ -18,7 +18,9 @@ pub mod program;
 pub mod relations;
 pub mod rules;
 pub mod sheet;
+pub mod tally;
 pub mod term;
 pub mod theorem;
+pub mod totals;
 pub mod tree;
 pub mod unfolding;

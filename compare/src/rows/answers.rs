@@ -1,9 +1,9 @@
 //! What program `examples` must print behind a row's name: the answer and the lent slices.
 
 use super::call::Call;
-use super::words::{tally_text, told};
+use super::words::step_text;
 use super::{fixed, free};
-use crate::reference::{marking, program};
+use crate::reference::{program, tally};
 
 /// Which form is made is free, so a form is taken out of the stored text. The error tells what is
 /// wrong with a form that may not be made.
@@ -11,8 +11,8 @@ pub fn answer(call: &Call, stored: &str) -> Result<String, String> {
     Ok(match call {
         Call::Line { sheet } => program::line(sheet),
         Call::Make { sheet, room } => free::make(sheet, *room, stored)?,
-        Call::Mark { sheet, room, numbers, tally } => {
-            free::mark(sheet, *room, *numbers, *tally, stored)?
+        Call::Mark { sheet, tally, room, numbers, candidate } => {
+            free::mark(sheet, *tally, *room, *numbers, *candidate, stored)?
         }
         Call::Certify { sheet, rooms } => free::certify(sheet, rooms, stored)?,
         Call::Rule { alphabet, form, number } => fixed::rule(alphabet, form, *number),
@@ -33,6 +33,8 @@ pub fn answer(call: &Call, stored: &str) -> Result<String, String> {
         Call::Wrap { alphabet, tree, automaton, room } => {
             fixed::wrap(alphabet, tree, automaton, *room)
         }
-        Call::Step { step, tally } => told(marking::step(*tally, *step), tally_text),
+        Call::Step { step, tally, candidate } => {
+            step_text(*tally, tally::step(*tally, *candidate, *step))
+        }
     })
 }

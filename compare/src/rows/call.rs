@@ -1,13 +1,13 @@
 //! The calls of rows.
 
 use super::fields::Fields;
-use crate::reference::marking::Step;
+use crate::reference::tally::{Step, Tally};
 
 /// A call with what it reads and the lengths of the slices it is lent.
 pub enum Call {
     Line { sheet: Vec<u8> },
     Make { sheet: Vec<u8>, room: usize },
-    Mark { sheet: Vec<u8>, room: usize, numbers: usize, tally: [u32; 3] },
+    Mark { sheet: Vec<u8>, tally: Tally, room: usize, numbers: usize, candidate: usize },
     Certify { sheet: Vec<u8>, rooms: Rooms },
     Rule { alphabet: Vec<u8>, form: Vec<u8>, number: usize },
     Rules { alphabet: Vec<u8>, form: Vec<u8> },
@@ -17,7 +17,7 @@ pub enum Call {
     Evaluate { alphabet: Vec<u8>, automaton: Vec<u8>, form: Vec<u8>, numbers: usize },
     Walk { alphabet: Vec<u8>, automaton: Vec<u8>, tree: Vec<u8>, room: usize },
     Wrap { alphabet: Vec<u8>, tree: Vec<u8>, automaton: Vec<u8>, room: usize },
-    Step { step: Step, tally: [u32; 3] },
+    Step { step: Step, tally: Tally, candidate: usize },
 }
 
 /// The lengths of the slices of form making, evaluation, unfolding and walk in turn.
@@ -47,11 +47,13 @@ impl Call {
         let mut fields = Fields::of(text.strip_prefix(' ')?);
         let call = match fields.word()? {
             name @ ("line" | "make" | "mark" | "certify") => sheet_call(name, &mut fields)?,
-            name @ ("rule" | "rules" | "size" | "label" | "unfold") => form_call(name, &mut fields)?,
+            name @ ("rule" | "rules" | "size" | "label" | "unfold") => {
+                form_call(name, &mut fields)?
+            }
             name @ ("evaluate" | "walk" | "wrap") => tree_call(name, &mut fields)?,
-            "accept" => Call::Step { step: Step::Accept, tally: fields.tally()? },
-            "decline" => Call::Step { step: Step::Decline, tally: fields.tally()? },
-            "turn_away" => Call::Step { step: Step::TurnAway, tally: fields.tally()? },
+            "accept" => step_call(Step::Accept, &mut fields)?,
+            "decline" => step_call(Step::Decline, &mut fields)?,
+            "turn_away" => step_call(Step::TurnAway, &mut fields)?,
             _ => return None,
         };
         fields.ended().then_some(call)
@@ -76,9 +78,10 @@ fn sheet_call(name: &str, fields: &mut Fields) -> Option<Call> {
         "make" => Call::Make { sheet, room: fields.room()? },
         "mark" => Call::Mark {
             sheet,
+            tally: fields.tally()?,
             room: fields.room()?,
             numbers: fields.numbers()?,
-            tally: fields.tally()?,
+            candidate: fields.candidate()?,
         },
         _ => Call::Certify { sheet, rooms: Rooms::read(fields)? },
     })
@@ -106,4 +109,8 @@ fn tree_call(name: &str, fields: &mut Fields) -> Option<Call> {
         "walk" => Call::Walk { alphabet, automaton: second, tree: third, room: fields.room()? },
         _ => Call::Wrap { alphabet, tree: second, automaton: third, room: fields.room()? },
     })
+}
+
+fn step_call(step: Step, fields: &mut Fields) -> Option<Call> {
+    Some(Call::Step { step, tally: fields.tally()?, candidate: fields.candidate()? })
 }

@@ -1,5 +1,6 @@
 //! The fields of a row.
 
+use crate::reference::tally::{COUNTS, Tally, ZERO};
 use std::str::Split;
 
 /// The longest slices of bytes and of numbers that program `examples` lends, whatever is asked.
@@ -49,9 +50,21 @@ impl<'a> Fields<'a> {
         Some(self.number()?.min(MOST_NUMBERS) as usize)
     }
 
-    pub fn tally(&mut self) -> Option<[u32; 3]> {
-        let mut count = || Some(self.number()?.min(u64::from(u32::MAX)) as u32);
-        Some([count()?, count()?, count()?])
+    /// Four bytes for each count, low byte first. Missing bytes are 0, and bytes behind the last
+    /// count are passed over.
+    pub fn tally(&mut self) -> Option<Tally> {
+        let mut bytes = self.bytes()?;
+        bytes.resize(4 * COUNTS, 0);
+        let mut tally = ZERO;
+        for (count, bytes) in tally.as_flattened_mut().iter_mut().zip(bytes.as_chunks().0) {
+            *count = u32::from_le_bytes(*bytes);
+        }
+        Some(tally)
+    }
+
+    /// The number of a candidate, whether there is one or not.
+    pub fn candidate(&mut self) -> Option<usize> {
+        Some(self.number()? as usize)
     }
 
     pub fn ended(&mut self) -> bool {

@@ -6,6 +6,7 @@ use super::fields::pieces;
 use super::printed::{lent, slice};
 use super::words::{said, tally_text};
 use crate::reference::facts::Facts;
+use crate::reference::tally::Tally;
 use crate::reference::{calls, making, marking};
 use crate::refusal::Answer;
 
@@ -16,13 +17,14 @@ pub fn make(sheet: &[u8], room: usize, stored: &str) -> Result<String, String> {
 
 pub fn mark(
     sheet: &[u8],
+    tally: Tally,
     room: usize,
     numbers: usize,
-    tally: [u32; 3],
+    candidate: usize,
     stored: &str,
 ) -> Result<String, String> {
     let facts = Facts::of(sheet);
-    let allowed = marking::allowed(tally, &facts, room, numbers);
+    let allowed = marking::allowed(&tally, candidate, &facts, room, numbers);
     let (made, form) = made(allowed, room, stored)?;
     let mut relations = lent(numbers);
     let marked = made.and_then(|written| {
@@ -31,7 +33,7 @@ pub fn mark(
         calls::evaluate(&sheet.alphabet_body, &sheet.automaton_body, form, &mut relations)
     });
     let verdict = if allowed.is_ok_and(Facts::accepted) { "accepted" } else { "declined" };
-    let moved = tally_text(marking::tally_after(tally, allowed));
+    let moved = tally_text(marking::tally_after(tally, candidate, allowed));
     let lent = slice("form", &form) + &slice("relations", &relations);
     Ok(format!("{}, {moved}{lent}", said(verdict, marked)))
 }

@@ -1,5 +1,6 @@
 //! Answers as program `examples` prints them.
 
+use crate::reference::tally::Tally;
 use crate::refusal::{Answer, Refusal};
 use std::fmt::Display;
 
@@ -27,6 +28,21 @@ pub fn rule_text(fields: [u16; 7]) -> String {
     format!("rule {}", fields.map(|field| field.to_string()).join(" "))
 }
 
-pub fn tally_text([accepted, declined, turned_away]: [u32; 3]) -> String {
-    format!("tally {accepted} {declined} {turned_away}")
+/// The counts of each candidate that has one other than 0.
+pub fn tally_text(tally: Tally) -> String {
+    let mut text = "tally".to_string();
+    for (candidate, counts) in tally.into_iter().enumerate() {
+        if counts != [0; 3] {
+            text += &format!(" {candidate} ({})", counts.map(|count| count.to_string()).join(" "));
+        }
+    }
+    text
+}
+
+/// The tally after a step, or the refusal and the tally before it.
+pub fn step_text(before: Tally, answer: Answer<Tally>) -> String {
+    match answer {
+        Ok(moved) => tally_text(moved),
+        Err(Refusal(number)) => format!("refused {number}, {}", tally_text(before)),
+    }
 }

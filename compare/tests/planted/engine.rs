@@ -1,5 +1,6 @@
 //! An engine with one fault.
 
+use crate::marking::Call;
 use compare::calls::{Engine, FixedCalls};
 use compare::idiomatic::Idiomatic;
 use std::cell::RefCell;
@@ -35,12 +36,23 @@ pub enum Fault {
     TurnedAwayNotCounted,
     ShortCounted,
     FullLooksAtAcceptedOnly,
+    FullLooksAtMovedOnly,
+    FullLooksAtAll,
     FullAfterSheet,
     RelationsForgotten,
+    CandidateModulo16,
+    CandidateModulo256,
+    CandidateOfFourBytes,
+    CandidateAfterSheet,
+    NoCandidateCounted,
+    NeighbourMoved,
+    TallyOf47Taken,
+    ShortTallyAfterCandidate,
+    CountsPastWritten,
 }
 
 pub struct Planted {
-    fault: Fault,
+    pub fault: Fault,
     old_form: RefCell<Option<Vec<u8>>>,
 }
 
@@ -49,12 +61,12 @@ impl Planted {
         Planted { fault, old_form: RefCell::new(None) }
     }
 
-    fn has(&self, fault: Fault) -> bool {
+    pub fn has(&self, fault: Fault) -> bool {
         self.fault == fault
     }
 
     /// The sheet as this engine takes it; a damaged one is refused as it is.
-    fn as_read(&self, sheet: &[u8]) -> Vec<u8> {
+    pub fn as_read(&self, sheet: &[u8]) -> Vec<u8> {
         let lawful = || Idiomatic.make_form(sheet, &mut [0; 24_580], &mut 0) == 0;
         if self.has(Fault::ParametersByAppearance) && lawful() {
             return by_appearance(sheet);
@@ -78,22 +90,8 @@ impl Planted {
         code
     }
 
-    /// Spoils the verdict and the tally of a marking.
-    fn spoil_verdict(&self, code: u8, before: [u32; 3], tally: &mut [u32; 3], verdict: &mut u8) {
-        match (self.fault, code) {
-            (Fault::DeclineAll, 0) => {
-                *verdict = 0;
-                *tally = [before[0], before[1] + 1, before[2]];
-            }
-            (Fault::TallyOnce, _) if before != [0; 3] => *tally = before,
-            (Fault::TurnedAwayNotCounted, 1..=16) => *tally = before,
-            (Fault::ShortCounted, 17 | 19) => tally[2] += 1,
-            _ => {}
-        }
-    }
-
     /// Spoils a form that was made rightly.
-    fn spoil_form(&self, first: u8, form: &mut [u8], written: &mut usize) {
+    pub fn spoil_form(&self, first: u8, form: &mut [u8], written: &mut usize) {
         match self.fault {
             Fault::OldForm => {
                 let mut old = self.old_form.borrow_mut();
@@ -121,7 +119,7 @@ impl Planted {
 }
 
 /// The bodies of a sheet whose contents join.
-fn bodies(sheet: &[u8]) -> [&[u8]; 3] {
+pub fn bodies(sheet: &[u8]) -> [&[u8]; 3] {
     [0, 4, 8].map(|entry| {
         let number = |at: usize| usize::from(sheet[at]) + 256 * usize::from(sheet[at + 1]);
         &sheet[number(entry)..number(entry) + number(entry + 2)]
@@ -311,36 +309,11 @@ impl Engine for Planted {
         sheet: &[u8],
         form: &mut [u8],
         relations: &mut [u64],
-        tally: &mut [u32; 3],
+        candidate: usize,
+        tally: &mut [u32],
         verdict: &mut u8,
         mask: &mut u8,
     ) -> u8 {
-        let (before, kept) = (*tally, relations.to_vec());
-        let first = form.first().copied().unwrap_or(0);
-        if self.has(Fault::RefuseAll) {
-            tally[2] = tally[2].saturating_add(1);
-            return 1;
-        }
-        if self.has(Fault::FullLooksAtAcceptedOnly) && tally[0] != u32::MAX {
-            *tally = tally.map(|count| count.min(u32::MAX - 1));
-        }
-        if self.has(Fault::FullAfterSheet) && tally.contains(&u32::MAX) {
-            let code = Idiomatic.make_form(sheet, &mut [0; 24_580], &mut 0);
-            return if code == 0 { 25 } else { code };
-        }
-        let sheet = self.as_read(sheet);
-        let code = Idiomatic.mark(&sheet, form, relations, tally, verdict, mask);
-        if code == 0 {
-            // The spoiled form and its relations, as the two calls leave them.
-            let mut written = 4 + 12 * (usize::from(form[0]) + 256 * usize::from(form[1]));
-            self.spoil_form(first, form, &mut written);
-            let [alphabet, _, automaton] = bodies(&sheet);
-            Idiomatic.evaluate(alphabet, automaton, &form[..written], relations, &mut 0);
-        }
-        if code == 0 && self.has(Fault::RelationsForgotten) {
-            relations.copy_from_slice(&kept);
-        }
-        self.spoil_verdict(code, before, tally, verdict);
-        code
+        self.marking(Call { sheet, form, relations, candidate, tally, verdict, mask })
     }
 }

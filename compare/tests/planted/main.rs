@@ -1,12 +1,13 @@
 //! The harness finds planted faults: each engine here is right but for one thing.
 
 mod engine;
+mod marking;
 
 use compare::harness::run::run_generated;
 use engine::{Fault, Planted};
 
 /// Each fault and the call whose difference tells of it.
-const FAULTS: [(Fault, &str); 31] = [
+const FAULTS: [(Fault, &str); 42] = [
     (Fault::OldForm, "make_form"),
     (Fault::ConstantForm, "make_form"),
     (Fault::FormWritesPast, "make_form"),
@@ -36,8 +37,19 @@ const FAULTS: [(Fault, &str); 31] = [
     (Fault::TurnedAwayNotCounted, "mark"),
     (Fault::ShortCounted, "mark"),
     (Fault::FullLooksAtAcceptedOnly, "mark"),
+    (Fault::FullLooksAtMovedOnly, "mark"),
+    (Fault::FullLooksAtAll, "mark"),
     (Fault::FullAfterSheet, "mark"),
     (Fault::RelationsForgotten, "mark"),
+    (Fault::CandidateModulo16, "mark"),
+    (Fault::CandidateModulo256, "mark"),
+    (Fault::CandidateOfFourBytes, "mark"),
+    (Fault::CandidateAfterSheet, "mark"),
+    (Fault::NoCandidateCounted, "mark"),
+    (Fault::NeighbourMoved, "mark"),
+    (Fault::TallyOf47Taken, "mark"),
+    (Fault::ShortTallyAfterCandidate, "mark"),
+    (Fault::CountsPastWritten, "mark"),
 ];
 
 #[test]

@@ -19,7 +19,7 @@ fn the_sample_has_every_call() {
     let (input, output) = sample();
     let found = differences(&input, &output);
     assert!(found.is_empty(), "{}", found.join("\n"));
-    assert_eq!(line::count(&input), 42);
+    assert_eq!(line::count(&input), 51);
 }
 
 /// What is found after the first such text behind the row's name was changed in the output.
@@ -42,7 +42,10 @@ fn a_changed_answer_is_found() {
     assert!(told.contains("\nfound    walk: mask 3; masks 01 01"), "{told}");
     planted("certified", "mask 1", "mask 0");
     planted("marked", "accepted 1", "declined 1");
-    planted("marked", "tally 4 1 2", "tally 3 1 2");
+    planted("marked", "tally 0 (4 1 2)", "tally 0 (3 1 2)");
+    planted("marked", "tally 0 (4 1 2)", "tally 1 (4 1 2)");
+    planted("26", "tally 0 (4294967295 0 0)", "tally");
+    planted("nobody", "refused 26, tally 0 (3 1 2)", "refused 26");
     planted("17", "refused 17", "refused 1");
     planted("made", "written 76", "written 88");
 }
@@ -76,7 +79,7 @@ fn a_line_too_few_or_too_many_is_found() {
     for missing in 0..lines.len() {
         let left = [&lines[..missing], &lines[missing + 1..]].concat().join("\n");
         let found = differences(&input, &left);
-        assert!(found[0].contains("expected 45 lines\nfound    44"), "{}", found[0]);
+        assert!(found[0].contains("expected 54 lines\nfound    53"), "{}", found[0]);
     }
     assert_eq!(differences(&input, &format!("{output}more\n")).len(), 1);
     assert_eq!(differences(&input, output.trim_end()).len(), 1);

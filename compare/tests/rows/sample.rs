@@ -26,36 +26,20 @@ const MASKS: &str = "masks 01 01 02 01 02 01 01";
 const LEAF: &str = "sheet 0c 00 03 00 0f 00 03 00 12 00 02 00 00 02 01 00 01 00 02 01";
 const LEAF_FORM: &str = "form 01 00 00 00 00 00 00 00 ff ff ff ff ff ff ff ff";
 
+/// Counts 3, 1 and 2 of candidate 0, and the bytes of candidates without a count.
+const TALLY: &str = "030000000100000002000000";
+const NOBODY: &str = "000000000000000000000000";
+
 const HEADINGS: [(&str, &str); 3] =
     [("# A heading: line 00", "# A heading: line 00"), ("", ""), ("#", "#")];
 
-const SHEET_CALLS: [(&str, &str); 15] = [
+const SHEET_CALLS: [(&str, &str); 10] = [
     ("K1 W: line $w", "K1 W: accepted 1 7"),
     (": line $contents+$alphabet+$rules+0202+$transitions", ": declined 1 7"),
     ("empty: line -", "empty: refused 1"),
     ("65 rules: line 0C0003000F00C300D2000200+$alphabet+65*000100+0201", "65 rules: refused 6"),
     ("made: make $w 2120", "made: written 76; $made, 2044 kept"),
     ("17: make $w 2115", "17: refused 17; form 2115 kept"),
-    (
-        "marked: mark $w 2116 176 3 1 2",
-        "marked: accepted 1, tally 4 1 2; $made, 2040 kept; $relations, 170 kept",
-    ),
-    (
-        "declined: mark $contents+$alphabet+$rules+0202+$transitions 2116 177 3 1 2",
-        "declined: declined 1, tally 3 2 2; $made, 2040 kept; $relations, 171 kept",
-    ),
-    (
-        "turned away: mark - 0 0 3 1 2",
-        "turned away: refused 1, tally 3 1 3; form 0 kept; relations 0 kept",
-    ),
-    (
-        "19: mark $w 2116 175 3 1 2",
-        "19: refused 19, tally 3 1 2; form 2116 kept; relations 175 kept",
-    ),
-    (
-        "25: mark - 4 99999 3 1 99999999999999999999",
-        "25: refused 25, tally 3 1 4294967295; form 4 kept; relations 4096 kept",
-    ),
     (
         "certified: certify $w 2116 7 13 8 9",
         "certified: written 76, mask 1, written 7, mask 1; $counts, 1 kept; $tree, 1 kept; \
@@ -75,6 +59,50 @@ const SHEET_CALLS: [(&str, &str); 15] = [
         "1 of four: certify - 1 2 3 4 5",
         "1 of four: refused 1, refused 1, refused 1, refused 1; counts 3 kept; tree 4 kept; \
          masks 5 kept; form 1 kept; relations 2 kept",
+    ),
+];
+
+const MARKINGS: [(&str, &str); 10] = [
+    (
+        "marked: mark $w $tally 2116 176 0",
+        "marked: accepted 1, tally 0 (4 1 2); $made, 2040 kept; $relations, 170 kept",
+    ),
+    (
+        "declined: mark $contents+$alphabet+$rules+0202+$transitions $tally 2116 177 3",
+        "declined: declined 1, tally 0 (3 1 2) 3 (0 1 0); $made, 2040 kept; $relations, 171 kept",
+    ),
+    (
+        "turned away: mark - - 0 0 15",
+        "turned away: refused 1, tally 15 (0 0 1); form 0 kept; relations 0 kept",
+    ),
+    (
+        "17 from zero: mark $w - 2 1 1",
+        "17 from zero: refused 17, tally; form 2 kept; relations 1 kept",
+    ),
+    (
+        "19: mark $w $tally 2116 175 0",
+        "19: refused 19, tally 0 (3 1 2); form 2116 kept; relations 175 kept",
+    ),
+    (
+        "25: mark - $tally+2*$nobody+0000000000000000FFFFFFFF 4 99999 3",
+        "25: refused 25, tally 0 (3 1 2) 3 (0 0 4294967295); form 4 kept; relations 4096 kept",
+    ),
+    (
+        "beside a full one: mark - FFFFFFFF 4 0 1",
+        "beside a full one: refused 1, tally 0 (4294967295 0 0) 1 (0 0 1); form 4 kept; \
+         relations 0 kept",
+    ),
+    (
+        "26: mark - FFFFFFFF 4 0 16",
+        "26: refused 26, tally 0 (4294967295 0 0); form 4 kept; relations 0 kept",
+    ),
+    (
+        "26 far beyond: mark $w 07 2116 176 99999999999999999999",
+        "26 far beyond: refused 26, tally 0 (7 0 0); form 2116 kept; relations 176 kept",
+    ),
+    (
+        "all of a tally: mark - 16*$tally+FF 0 0 15",
+        "all of a tally: refused 1, $all 15 (3 1 3); form 0 kept; relations 0 kept",
     ),
 ];
 
@@ -99,27 +127,32 @@ const TREE_CALLS: [(&str, &str); 5] = [
     ("24: wrap $alphabet 00 0201 0", "24: refused 24; sheet 0 kept"),
 ];
 
-const STEPS: [(&str, &str); 4] = [
-    ("accept: accept 3 1 2", "accept: tally 4 1 2"),
-    ("decline: decline 3 1 2", "decline: tally 3 2 2"),
-    ("turn away: turn_away 3 1 2", "turn away: tally 3 1 3"),
-    ("full: turn_away 3 4294967295 2", "full: refused 25"),
+const STEPS: [(&str, &str); 7] = [
+    ("accept: accept $tally 0", "accept: tally 0 (4 1 2)"),
+    ("decline: decline $tally 3", "decline: tally 0 (3 1 2) 3 (0 1 0)"),
+    ("turn away: turn_away - 15", "turn away: tally 15 (0 0 1)"),
+    ("full: turn_away 03000000FFFFFFFF0001 0", "full: refused 25, tally 0 (3 4294967295 256)"),
+    ("the next: accept 03000000FFFFFFFF0001 1", "the next: tally 0 (3 4294967295 256) 1 (1 0 0)"),
+    ("nobody: decline $tally 16", "nobody: refused 26, tally 0 (3 1 2)"),
+    ("nobody and no count: accept - 256", "nobody and no count: refused 26, tally"),
 ];
 
-const UNREADABLE: [(&str, &str); 8] = [
+const UNREADABLE: [(&str, &str); 9] = [
     ("half a byte: line 0", "half a byte: unreadable"),
     ("small letters: line 0c", "small letters: unreadable"),
     ("no such call: lines 00", "no such call: unreadable"),
     ("too few: make 00", "too few: unreadable"),
     ("too many: line 00 00", "too many: unreadable"),
-    ("no number: accept 3 1 x", "no number: unreadable"),
+    ("no number: accept 03 x", "no number: unreadable"),
+    ("three counts: accept 3 1 2", "three counts: unreadable"),
     ("no call:", "no call: unreadable"),
     ("no colon", "no colon: unreadable"),
 ];
 
 /// The input and the output.
 pub fn sample() -> (String, String) {
-    let parts = [&HEADINGS[..], &SHEET_CALLS, &FORM_CALLS, &TREE_CALLS, &STEPS, &UNREADABLE];
+    let calls = [&SHEET_CALLS[..], &MARKINGS, &FORM_CALLS, &TREE_CALLS, &STEPS];
+    let parts = [&HEADINGS[..], &calls.concat(), &UNREADABLE];
     let (rows, lines): (Vec<&str>, Vec<&str>) = parts.concat().into_iter().unzip();
     (filled(&rows.join("\n")) + "\n", filled(&lines.join("\n")) + "\n")
 }
@@ -139,6 +172,15 @@ fn filled(text: &str) -> String {
         ("$masks", MASKS),
         ("$leaf", LEAF),
         ("$small", LEAF_FORM),
+        ("$tally", TALLY),
+        ("$nobody", NOBODY),
+        ("$all", &all_but_the_last()),
     ];
     words.iter().fold(text.to_string(), |text, (word, bytes)| text.replace(word, bytes))
+}
+
+/// What is printed of a tally in which each candidate but the last has 3, 1 and 2.
+fn all_but_the_last() -> String {
+    let counts = (0..15).map(|candidate| format!(" {candidate} (3 1 2)"));
+    format!("tally{}", counts.collect::<String>())
 }

@@ -1,27 +1,19 @@
 -- Marking with the tally as a list of counts: what an answer says of its number, the verdict, the mask and the counts.
 use mathlib.Core.Path.{_≡_, refl, sym, ap, subst, _∙_}
-use mathlib.Core.List.{List, [], _∷_, _++_}
+use mathlib.Core.List.{List}
 use Prim.Native.Nat.{ℕ, zero, suc, _≤_, _<_}
 use native.Mathlib.Omega.{arith}
 use borrow.Author.Tests.{lt-ltb, le-ltb}
-use lib.ListN.{length, drop, set}
+use lib.ListN.{length}
 use Rattle.terms.specs.Sheet.{Verdict, sheetMask, sheetVerdict}
 use Rattle.terms.specs.Answer.{refused, answered, answer}
-use Rattle.terms.specs.Calls.{markingRefusal}
-use Rattle.terms.proofs.Refusal.{or-none}
-use Rattle.tallies.specs.Tally.{counts}
-use Rattle.marking.specs.Marking.{MarkAnswer, sheetMark, SlicesLeft}
-use Rattle.tallies.specs.Counted.{marking, counted}
+use Rattle.terms.specs.Calls.{MarkAnswer, sheetMark, markingRefusal}
+use Rattle.marking.specs.Marking.{SlicesLeft}
+use Rattle.tallies.specs.Counts.{counted}
+use Rattle.tallies.specs.Lists.{marking}
 use Rattle.capi.specs.Result.{resultAfter}
 use Rattle.capi.proofs.Answered.{numberOf}
-use Rattle.capi.specs.Mark.{tallyOf, verdictNumber, markRefusal, tallyLeft}
-
--- three numbers put into the first places of a list
-pub three-set : (a b c : ℕ) (l : List ℕ) → 3 ≤ length l → set (set (set l 0 a) 1 b) 2 c ≡ a ∷ b ∷ c ∷ drop 3 l
-three-set a b c [] h = absurd (omega arith)
-three-set a b c (x₀ ∷ []) h = absurd (omega arith)
-three-set a b c (x₀ ∷ x₁ ∷ []) h = absurd (omega arith)
-three-set a b c (x₀ ∷ x₁ ∷ x₂ ∷ xs) h = refl
+use Rattle.capi.specs.Mark.{verdictNumber, markRefusal, tallyLeft}
 
 abbrev verdictResult : MarkAnswer → ℕ → ℕ
 verdictResult (refused n) b = b
@@ -39,32 +31,32 @@ mark-says : (k : ℕ) (mark : Verdict × ℕ) (v m : ℕ) (r : MarkAnswer) → a
 mark-says zero (verdict, mask) v m r e = subst (λ (x : MarkAnswer). Says x zero (verdict, mask) v m) e (refl, refl, refl)
 mark-says (suc k) (verdict, mask) v m r e = subst (λ (x : MarkAnswer). Says x (suc k) (verdict, mask) v m) e (refl, refl, refl)
 
-module _ (tally sheet form relations : List ℕ) (v m : ℕ) where
+module _ (tally : List ℕ) (c : ℕ) (sheet form relations : List ℕ) (v m : ℕ) where
   abbrev refusal : ℕ
-  refusal = markRefusal tally sheet (length form) (length relations)
+  refusal = markRefusal tally c sheet (length form) (length relations)
 
   -- all that is promised: the number, the counts, the slices, the verdict and the mask
   abbrev Marked : ℕ → List ℕ → List ℕ → List ℕ → ℕ → ℕ → Type 0
   Marked n tally′ form′ relations′ x y =
       (n ≡ refusal)
-      × ((tally′ ≡ tallyLeft tally sheet (length form) (length relations))
+      × ((tally′ ≡ tallyLeft tally c sheet (length form) (length relations))
       × (SlicesLeft refusal sheet form′ form relations′ relations
       × ((x ≡ resultAfter refusal (verdictNumber (sheetVerdict sheet)) v)
       × (y ≡ resultAfter refusal (sheetMask sheet) m))))
 
   -- a list that is too short
-  pub short-marked : length tally < 3 → Marked 19 tally form relations v m
+  pub short-marked : length tally < 48 → Marked 19 tally form relations v m
   unfolding markRefusal tallyLeft
-  short-marked h = rw (lt-ltb (length tally) 3 h) (refl, (refl, (record { formed = refl; evaluated = refl; made = λ z. absurd (omega arith) }, (refl, refl))))
+  short-marked h = rw (lt-ltb (length tally) 48 h) (refl, (refl, (record { formed = refl; evaluated = refl; made = λ z. absurd (omega arith) }, (refl, refl))))
 
   -- an answer of marking
-  pub marked : 3 ≤ length tally → (tally′ form′ relations′ : List ℕ) (r e : MarkAnswer) → r ≡ marking (tallyOf tally) sheet (length form) (length relations)
-      → tally′ ≡ counts (counted r (tallyOf tally)) ++ drop 3 tally
-      → SlicesLeft (markingRefusal (counts (tallyOf tally)) sheet (length form) (length relations)) sheet form′ form relations′ relations
+  pub marked : 48 ≤ length tally → (tally′ form′ relations′ : List ℕ) (r e : MarkAnswer) → r ≡ marking tally c sheet (length form) (length relations)
+      → tally′ ≡ counted c r tally
+      → SlicesLeft (markingRefusal tally c sheet (length form) (length relations)) sheet form′ form relations′ relations
       → r ≡ e → Marked (numberOf e) tally′ form′ relations′ (verdictResult e v) (maskResult e m)
   unfolding markRefusal tallyLeft
   marked h tally′ form′ relations′ r e answer moved slices is =
-      let k = markingRefusal (counts (tallyOf tally)) sheet (length form) (length relations) in
+      let k = markingRefusal tally c sheet (length form) (length relations) in
       let says = mark-says k (sheetMark sheet) v m e (sym answer ∙ is) in
-      let left = moved ∙ ap (λ (x : MarkAnswer). counts (counted x (tallyOf tally)) ++ drop 3 tally) answer in
-      rw (le-ltb (length tally) 3 h, or-none k) (says .0, (left, (slices, (says .1, says .2))))
+      let left = moved ∙ ap (λ (x : MarkAnswer). counted c x tally) answer in
+      rw (le-ltb (length tally) 48 h) (says .0, (left, (slices, (says .1, says .2))))

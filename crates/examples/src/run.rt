@@ -1,4 +1,5 @@
 // Running a row that was read: its call is lent a slice of bytes and one of numbers, which are printed behind the answer.
+use counted_marking::mark::mark;
 use evaluation::evaluate::evaluate;
 use labelling::label::label;
 use making::make_form;
@@ -16,6 +17,7 @@ use row_answers::answers::say_step;
 use row_answers::certify::certify_into;
 use row_answers::rules::rule_number;
 use row_answers::rules::say_rules;
+use row_answers::tally::tally_of;
 use rows::lend::BYTE;
 use rows::lend::MOST_BYTES;
 use rows::lend::MOST_NUMBERS;
@@ -45,7 +47,6 @@ use rows::words;
 use rows::words::UNREADABLE;
 use rows::words::say;
 use sizing::size::size;
-use tallies::mark::mark;
 use tallies::tally::Step;
 use tallies::tally::Tally;
 use unfolding::unfold::unfold;
@@ -61,26 +62,19 @@ fn part(bytes: &[u8], from: usize, end: usize) -> &[u8] {
     &bytes[0..0]
 }
 
-fn tally_of(accepted: usize, declined: usize, turned_away: usize) -> Tally {
-    Tally {
-        accepted: within(accepted, 4294967295) as u32,
-        declined: within(declined, 4294967295) as u32,
-        turned_away: within(turned_away, 4294967295) as u32,
-    }
-}
-
-fn step(call: usize, tally: Tally) -> Step {
+fn step(call: usize, tally: Tally, candidate: usize) -> Step {
     match call {
-        ACCEPT => tally.accept(),
-        DECLINE => tally.decline(),
-        _ => tally.turn_away(),
+        ACCEPT => tally.accept(candidate),
+        DECLINE => tally.decline(candidate),
+        _ => tally.turn_away(candidate),
     }
 }
 
 // The length of the slice of bytes that a call is lent, which is one of the fields of its row.
 fn room_of(call: usize, n: [usize; 9]) -> usize {
     match call {
-        MAKE | MARK | CERTIFY => n[3],
+        MAKE | CERTIFY => n[3],
+        MARK => n[4],
         UNFOLD | WALK | WRAP => n[5],
         _ => 0,
     }
@@ -89,8 +83,8 @@ fn room_of(call: usize, n: [usize; 9]) -> usize {
 // The length of the slice of numbers.
 fn count_of(call: usize, n: [usize; 9]) -> usize {
     match call {
-        MARK | CERTIFY | SIZE | UNFOLD => n[4],
-        EVALUATE | LABEL => n[5],
+        CERTIFY | SIZE | UNFOLD => n[4],
+        MARK | EVALUATE | LABEL => n[5],
         _ => 0,
     }
 }
@@ -127,7 +121,7 @@ fn answer(
 ) {
     match call {
         MAKE => say_length(make_form(a, bytes)),
-        MARK => say_marking(mark(a, bytes, numbers, tally_of(n[5], n[6], n[7]))),
+        MARK => say_marking(mark(a, bytes, numbers, n[6], tally_of(b))),
         CERTIFY => certify_into(a, bytes, numbers, n),
         RULE => say_reading(read(a, b, rule_number(n[4]))),
         RULES => say_rules(a, b),
@@ -137,7 +131,7 @@ fn answer(
         UNFOLD => say_length(unfold(a, b, numbers, bytes)),
         WALK => say_mask(walk(a, b, c, bytes)),
         WRAP => say_length(wrap(a, b, c, bytes)),
-        _ => say_step(step(call, tally_of(n[2], n[3], n[4]))),
+        _ => say_step(step(call, tally_of(a), n[3])),
     }
 }
 

@@ -9,12 +9,12 @@ use Rattle.terms.specs.Sheet.{Verdict, sheetTree, sheetMask, sheetVerdict}
 use Rattle.terms.specs.Check.{sheetRefusal}
 use Rattle.terms.specs.FormBytes.{formLength, mostFormRules}
 use Rattle.terms.specs.Count.{sizeOf, capped}
-use Rattle.terms.specs.Calls.{rulesAsked, makingRefusal, sheetMarkingRefusal}
+use Rattle.terms.specs.Calls.{rulesAsked, makingRefusal, sheetMarkingRefusal, MarkAnswer, sheetMark}
 use Rattle.sheets.proofs.Asked.{asked-small}
 use Rattle.making.specs.Making.{formOf}
 use Rattle.making.proofs.Formed.{form-of, written-first}
 use Rattle.terms.specs.Answer.{Answer, refused, answered, answer}
-use Rattle.marking.specs.Marking.{MarkAnswer, sheetMark, SlicesLeft}
+use Rattle.marking.specs.Marking.{SlicesLeft}
 use Rattle.mark_line.specs.Line.{lineOf}
 use Rattle.mark_line.specs.Private.MarkedForm.{MarkedForm}
 

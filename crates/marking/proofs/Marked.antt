@@ -9,7 +9,7 @@ use Rattle.terms.specs.Tree.{preorder}
 use Rattle.terms.specs.Sheet.{alphabetOf, rulesOf, automatonOf, finals, Verdict, sheetTree, sheetMask, sheetVerdict}
 use Rattle.terms.specs.FormBytes.{formLength}
 use Rattle.terms.specs.Answer.{refused, answered, answer}
-use Rattle.terms.specs.Calls.{lentAfter, rulesAsked, sheetMarkingRefusal, makingRefusal, evaluationRefusal, relationsOf, formMask, walkMask}
+use Rattle.terms.specs.Calls.{lentAfter, rulesAsked, sheetMarkingRefusal, MarkAnswer, sheetMark, makingRefusal, evaluationRefusal, relationsOf, formMask, walkMask}
 use Rattle.terms.specs.Demand.{FormOfSheet, Demand3}
 use Rattle.terms.proofs.Refusal.{is-first}
 use Rattle.terms.proofs.Demand.{walk-answers, form-meets}
@@ -21,7 +21,7 @@ use Rattle.making.specs.Making.{formOf}
 use Rattle.making.specs.Private.Read.{FormWritten}
 use Rattle.making.proofs.Formed.{form-of, written-first}
 use Rattle.making.proofs.SheetRead.{SheetRead, too-short, long-enough}
-use Rattle.marking.specs.Marking.{MarkAnswer, sheetMark, SlicesLeft}
+use Rattle.marking.specs.Marking.{SlicesLeft}
 use Rattle.marking.specs.Private.Verdict.{verdictOn}
 
 -- The answer and the slices, by the refusal.

@@ -11,7 +11,7 @@ use Rattle.terms.proofs.Automaton.Bits.{set-cong, set-whole}
 use Rattle.relations.proofs.Laws.{has-and}
 use Rattle.terms.specs.Answer.{answered}
 use Rattle.terms.specs.Sheet.{accepted, declined}
-use Rattle.marking.specs.Marking.{MarkAnswer}
+use Rattle.terms.specs.Calls.{MarkAnswer}
 use Rattle.marking.specs.Private.Verdict.{verdictOn}
 
 none-in : (n : ℕ) (f : ℕ → Bool) → some n f ≡ false → (q : ℕ) → q < n → f q ≡ false

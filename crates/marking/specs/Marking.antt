@@ -3,26 +3,18 @@ use mathlib.Core.Path.{_≡_}
 use mathlib.Core.List.{List}
 use Prim.Native.Nat.{ℕ}
 use lib.ListN.{length}
-use Rattle.terms.specs.Sheet.{alphabetOf, automatonOf, Verdict, accepted, declined, sheetMask, sheetVerdict}
-use Rattle.terms.specs.Answer.{Answer, refused, answered}
-use Rattle.terms.specs.Calls.{lentAfter, relationsOf}
+use Rattle.terms.specs.Sheet.{alphabetOf, automatonOf, accepted, declined}
+use Rattle.terms.specs.Answer.{refused, answered}
+use Rattle.terms.specs.Calls.{MarkAnswer, lentAfter, relationsOf}
 use Rattle.making.specs.Making.{formOf, FormMade}
 use Rattle.marking.specs.declared.answer.Mark.{Mark}
 use Rattle.marking.specs.declared.answer.Mark.the-variants.{Refused, Accepted, Declined}
-
--- what marking answers: a refusal, or a verdict with its mask (01 Size, label, wrap, tally)
-abbrev pub MarkAnswer : Type 0
-MarkAnswer = Answer (Verdict × ℕ)
 
 -- a verdict with its mask, for each case (01 Size, label, wrap, tally)
 abbrev pub answerOfMark : Mark → MarkAnswer
 answerOfMark (Refused n) = refused n
 answerOfMark (Accepted mask) = answered (accepted, mask)
 answerOfMark (Declined mask) = answered (declined, mask)
-
--- what is said of a sheet: its verdict and its mask (01 Derived tree and run)
-abbrev pub sheetMark : List ℕ → Verdict × ℕ
-sheetMark sheet = (sheetVerdict sheet, sheetMask sheet)
 
 -- Lent slices.
 

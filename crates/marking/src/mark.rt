@@ -13,9 +13,9 @@ ghost use Prim.Native.Nat.{_≤_};
 ghost use lib.ListN.{length};
 ghost use Rattle.terms.specs.Sheet.{finals};
 ghost use Rattle.terms.specs.Answer.{answered, answer};
-ghost use Rattle.terms.specs.Calls.{sheetMarkingRefusal};
+ghost use Rattle.terms.specs.Calls.{sheetMarkingRefusal, sheetMark};
 ghost use Rattle.making.specs.Private.Read.{ReadWithRoom};
-ghost use Rattle.marking.specs.Marking.{answerOfMark, sheetMark, SlicesLeft};
+ghost use Rattle.marking.specs.Marking.{answerOfMark, SlicesLeft};
 ghost use Rattle.marking.specs.Private.Verdict.{verdictOn};
 
 // The verdict of a mask: accepted where it shares a state with the final states.

@@ -1,4 +1,6 @@
 // The answers of the calls.
+use crate::tally::say_tally;
+use counted_marking::answer::Marking;
 use form_bytes::rule::FormRule;
 use labelling::answer::Label;
 use marking::answer::Mark;
@@ -13,14 +15,11 @@ use rows::words::MASK;
 use rows::words::OVER;
 use rows::words::RULE;
 use rows::words::SIZE;
-use rows::words::TALLY;
 use rows::words::TERMINAL;
 use rows::words::WRITTEN;
 use rows::words::say;
 use sizing::answer::Size;
-use tallies::answer::Marking;
 use tallies::tally::Step;
-use tallies::tally::Tally;
 use terms::answers::LengthAnswer;
 use terms::answers::MaskAnswer;
 
@@ -71,17 +70,13 @@ pub fn say_reading(reading: RuleReading) {
     }
 }
 
-fn say_tally(tally: Tally) {
-    say_with(TALLY, tally.accepted as u64);
-    print_number(tally.declined as u64);
-    print_number(tally.turned_away as u64);
-}
-
+// The refusal of a step, where there is one, and the tally that it leaves.
 pub fn say_step(step: Step) {
-    match step {
-        Step::Refused(n) => say_refused(n),
-        Step::Moved(tally) => say_tally(tally),
+    if step.refusal != 0 {
+        say_refused(step.refusal);
+        next_answer();
     }
+    say_tally(step.tally);
 }
 
 fn say_mark(mark: Mark) {

@@ -36,8 +36,8 @@ pub const NONE: usize = 0;
 // The first field of a row that is no byte string. The call is field 1.
 pub fn first_number(call: usize) -> usize {
     match call {
-        LINE | MAKE | MARK | CERTIFY => 3,
-        RULE | RULES | SIZE | LABEL | UNFOLD => 4,
+        LINE | MAKE | CERTIFY | ACCEPT | DECLINE | TURN_AWAY => 3,
+        MARK | RULE | RULES | SIZE | LABEL | UNFOLD => 4,
         EVALUATE | WALK | WRAP => 5,
         _ => 2,
     }
@@ -47,10 +47,11 @@ pub fn first_number(call: usize) -> usize {
 pub fn fields_of(call: usize) -> usize {
     match call {
         LINE => 3,
-        MAKE | RULES => 4,
-        RULE | SIZE | ACCEPT | DECLINE | TURN_AWAY => 5,
+        MAKE | RULES | ACCEPT | DECLINE | TURN_AWAY => 4,
+        RULE | SIZE => 5,
         EVALUATE | LABEL | UNFOLD | WALK | WRAP => 6,
-        MARK | CERTIFY => 8,
+        MARK => 7,
+        CERTIFY => 8,
         _ => 0,
     }
 }

@@ -15,10 +15,15 @@ pub fn put(sign: u8) {
     print(&[sign]);
 }
 
+// A number behind a sign.
+pub fn print_behind(sign: u8, number: u64) {
+    put(sign);
+    io::print_decimal(STDOUT_FILENO, number);
+}
+
 // A number behind a space.
 pub fn print_number(number: u64) {
-    put(b' ');
-    io::print_decimal(STDOUT_FILENO, number);
+    print_behind(b' ', number);
 }
 
 // A number behind a word.

@@ -1,4 +1,8 @@
-pub mod Full
-pub mod Counting
+pub mod Places
+pub mod Kept
 pub mod Numbers
-pub mod Lists
+pub mod Lines
+pub mod Sums
+pub mod Totals
+pub mod Steps
+pub mod Examples

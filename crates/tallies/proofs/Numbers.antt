@@ -1,4 +1,4 @@
--- Which numbers marking refuses by: 1 to 17, 19 and 25.
+-- Which numbers marking refuses by before it looks at a tally: 1 to 17 and 19.
 use mathlib.Core.Logic.{_⊎_, inl, inr}
 use mathlib.Core.Path.{_≡_, refl}
 use mathlib.Core.Bool.{Bool, true, false, not, _||_}
@@ -7,14 +7,16 @@ use Prim.Native.Nat.{ℕ, zero, suc, _-_, _≤_}
 use native.Mathlib.Omega.{arith}
 use lib.Dec.{leb, ltb, eqb}
 use lib.ListN.{length}
-use Rattle.terms.specs.Test.{any, all, every, tabulate}
+use Rattle.terms.specs.Test.{all, every, tabulate}
 use Rattle.terms.specs.Refusal.{_when_, orElse, first, outside}
 use Rattle.terms.specs.Tree.{wholes}
 use Rattle.terms.specs.Grammar.{Rule, ruleAt, ruleRank, rankIn, allAllowed, isParameter, sumOver, nodeCount}
 use Rattle.terms.specs.Sheet.{contentsLength, body, alphabetOf, rulesBody, automatonOf, stateCount, finals, transitionCount}
 use Rattle.terms.specs.Check.{mostTerminals, mostRules, mostNodes, highestRank, longestSheet, alphabetRefusal, isOne, lone, ruleRefusal, rulesRefusal, transitionFits, wrongLength, wrongStates, automatonRefusal, joins, sheetRefusal}
 use Rattle.terms.specs.FormBytes.{formLength}
-use Rattle.terms.specs.Calls.{rulesAsked, full, makingRefusal, sheetMarkingRefusal, markingRefusal}
+use Rattle.terms.specs.Answer.{refused, answered, answer}
+use Rattle.terms.specs.Calls.{rulesAsked, makingRefusal, sheetMarkingRefusal, MarkAnswer, sheetMark}
+use Rattle.tallies.specs.Lists.{Call}
 
 -- rows of numbers up to k
 none : {k : ℕ} → 0 ≤ k
@@ -74,17 +76,23 @@ sheet-number s =
     (then (alphabet-number (alphabetOf s))
     (then (rules-number (alphabetOf s) (body s 1)) (then (automaton-number (alphabetOf s) (automatonOf s)) none))))
 
--- 25, 1 to 16, 17, 19, or none
-abbrev pub Number : ℕ → Type 0
-Number n = (n ≤ 16) ⊎ (n ≡ 17) ⊎ (n ≡ 19) ⊎ (n ≡ 25)
+-- a verdict, or a refusal by 1 to 17 or 19
+abbrev pub OfSheet : MarkAnswer → Type 0
+OfSheet (refused n) = (1 ≤ n) × ((n ≤ 17) ⊎ (n ≡ 19))
+OfSheet (answered mark) = Unit {0}
 
-pub marking-number : (counts s : List ℕ) (room numbers : ℕ) → Number (markingRefusal counts s room numbers)
-unfolding markingRefusal sheetMarkingRefusal makingRefusal
-marking-number counts s room numbers = go (any full counts) (ltb room (formLength (rulesAsked s))) (sheetRefusal s) (ltb numbers (rulesAsked s)) (sheet-number s)
+-- what marking answers to a call without a tally
+abbrev pub alone : Call → MarkAnswer
+alone call = answer (sheetMarkingRefusal (call .sheet) (call .room) (call .numbers)) (sheetMark (call .sheet))
+
+pub of-sheet : (call : Call) → OfSheet (alone call)
+unfolding sheetMarkingRefusal makingRefusal
+of-sheet call =
+    let asked = rulesAsked (call .sheet) in
+    go (sheetRefusal (call .sheet)) (ltb (call .room) (formLength asked)) (ltb (call .numbers) asked) (sheet-number (call .sheet))
   where
-    go : (a b : Bool) (n : ℕ) (d : Bool) → n ≤ 16 → Number (first (25 when a ∷ first (first (n ∷ 17 when b ∷ []) ∷ 19 when d ∷ []) ∷ []))
-    go true b n d h = inr (inr (inr refl))
-    go false b (suc n) d h = inl h
-    go false true zero d h = inr (inl refl)
-    go false false zero true h = inr (inr (inl refl))
-    go false false zero false h = inl h
+    go : (n : ℕ) (b d : Bool) → n ≤ 16 → OfSheet (answer (first (first (n ∷ 17 when b ∷ []) ∷ 19 when d ∷ [])) (sheetMark (call .sheet)))
+    go (suc n) b d h = (omega arith, inl (omega arith))
+    go zero true d h = (omega arith, inl (omega arith))
+    go zero false true h = (omega arith, inr refl)
+    go zero false false h = tt

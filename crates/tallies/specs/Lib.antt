@@ -1,4 +1,6 @@
-pub mod Tally
-pub mod Counted
+pub mod Turn
+pub mod Counts
 pub mod Lists
-pub mod Private
+pub mod OneSet
+pub mod Claims
+pub mod Examples

@@ -1,4 +1,2 @@
-// The tally of the answers of markings, and its steps.
-pub mod answer;
-pub mod mark;
+// The tally of sixteen candidates, and its steps.
 pub mod tally;

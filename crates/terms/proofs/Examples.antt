@@ -14,7 +14,7 @@ use Rattle.terms.specs.Sheet.{body, readRules, rulesBody, rulesOf, nodes
 use Rattle.terms.specs.Check.{alphabetRefusal, isTree, treeRefusal, transitionFits, automatonRefusal, ruleRefusal, rulesRefusal, joins, sheetRefusal}
 use Rattle.terms.specs.FormBytes.{tableRule, tableRules, formTree, ruleFits, validFor, formRefusal}
 use Rattle.terms.specs.Count.{sizeAnswer}
-use Rattle.terms.specs.Calls.{makingRefusal, sheetMarkingRefusal, markingRefusal, openingRefusal, readingRefusal, evaluationRefusal, relationsOf, formMask, rulesCounts, sizeRefusal, unfoldingRefusal, labelRefusal, labelAt, walkRefusal, walkMask, walkMasks, wrapRefusal}
+use Rattle.terms.specs.Calls.{makingRefusal, sheetMarkingRefusal, openingRefusal, readingRefusal, evaluationRefusal, relationsOf, formMask, rulesCounts, sizeRefusal, unfoldingRefusal, labelRefusal, labelAt, walkRefusal, walkMask, walkMasks, wrapRefusal}
 use Rattle.terms.specs.Examples.{SheetRow, CallRow, hex, times, outcome, W, K7, K8, desk, papers, sheetRefusals, form, fieldRefusals, calls}
 
 -- each sheet comes out as its row says
@@ -27,5 +27,5 @@ CallsHold rows = map (λ r. r .gives) rows ≡ map (λ r. r .says) rows
 
 -- all rows hold
 pub table-holds : SheetsHold desk × SheetsHold papers × SheetsHold sheetRefusals × CallsHold fieldRefusals × CallsHold calls
-unfolding any all some every tabulate joined word preorder preorders firsts rest pick forestOf treeOf taking wholes join plug compose before after name rankIn rightSide value values apply derived bit has setOf allIn fires step mask masks through entry treeIn contextIn treesAt valueOf valueAt matrix relation entryOf body readRules rulesBody rulesOf nodesOf transitionCount transitionAt transitionsOf sheetTree sheetMask sheetVerdict sheetOf wrapped alphabetRefusal isTree treeRefusal transitionFits automatonRefusal ruleRefusal rulesRefusal joins sheetRefusal tableRule tableRules formTree ruleFits validFor formRefusal sizeAnswer makingRefusal sheetMarkingRefusal markingRefusal openingRefusal readingRefusal evaluationRefusal relationsOf formMask rulesCounts sizeRefusal unfoldingRefusal labelRefusal labelAt walkRefusal walkMask walkMasks wrapRefusal hex times outcome W K7 K8 desk papers sheetRefusals form fieldRefusals calls
+unfolding any all some every tabulate joined word preorder preorders firsts rest pick forestOf treeOf taking wholes join plug compose before after name rankIn rightSide value values apply derived bit has setOf allIn fires step mask masks through entry treeIn contextIn treesAt valueOf valueAt matrix relation entryOf body readRules rulesBody rulesOf nodesOf transitionCount transitionAt transitionsOf sheetTree sheetMask sheetVerdict sheetOf wrapped alphabetRefusal isTree treeRefusal transitionFits automatonRefusal ruleRefusal rulesRefusal joins sheetRefusal tableRule tableRules formTree ruleFits validFor formRefusal sizeAnswer makingRefusal sheetMarkingRefusal openingRefusal readingRefusal evaluationRefusal relationsOf formMask rulesCounts sizeRefusal unfoldingRefusal labelRefusal labelAt walkRefusal walkMask walkMasks wrapRefusal hex times outcome W K7 K8 desk papers sheetRefusals form fieldRefusals calls
 table-holds = (refl, refl, refl, refl, refl)

@@ -1,18 +1,19 @@
--- What each call refuses, in document 01's order ("Order: the table's"), and what it answers. A lent slice stands by its length.
+-- What each call refuses, in the order of documents 01 ("Order: the table's") and 02, and what it answers. A lent slice stands by its length.
 use mathlib.Core.Bool.{Bool}
 use mathlib.Core.List.{List, [], _∷_, _++_}
-use Prim.Native.Nat.{ℕ, zero, suc, _*_, _-_, _^_}
+use Prim.Native.Nat.{ℕ, zero, suc, _+_, _*_, _-_, _^_}
 use lib.Dec.{leb, ltb, eqb}
 use lib.ListN.{length, getD, drop}
 use Rattle.terms.specs.Test.{any, tabulate, joined}
-use Rattle.terms.specs.Refusal.{_when_, first}
+use Rattle.terms.specs.Refusal.{_when_, orElse, first}
+use Rattle.terms.specs.Answer.{Answer}
 use Rattle.terms.specs.Tree.{preorder, treeOf}
 use Rattle.terms.specs.Grammar.{terminalRank, nodeCount}
 use Rattle.terms.specs.Grammar.{Rule as Production}
 use Rattle.terms.specs.Automaton.{mask}
 use Rattle.terms.specs.Relation.{relationAt}
 use Rattle.terms.specs.Form.{Rule, Value, valueAt}
-use Rattle.terms.specs.Sheet.{rulesOf, transitionsOf, wrapped}
+use Rattle.terms.specs.Sheet.{Verdict, rulesOf, transitionsOf, sheetMask, sheetVerdict, wrapped}
 use Rattle.terms.specs.Check.{alphabetRefusal, automatonRefusal, treeRefusal, sheetRefusal, mostNodes}
 use Rattle.terms.specs.FormBytes.{ruleCount, formLength, formRules, formTree, formRefusal}
 use Rattle.terms.specs.Count.{ownNodes, nodesBefore, sizeOf, capped}
@@ -46,13 +47,44 @@ makingRefusal s room = first (sheetRefusal s ∷ 17 when (ltb room (formLength (
 unfoldable pub sheetMarkingRefusal : List ℕ → ℕ → ℕ → ℕ
 sheetMarkingRefusal s room numbers = first (makingRefusal s room ∷ 19 when (ltb numbers (rulesAsked s)) ∷ [])
 
--- a count of the tally that cannot move on (01 Refusals, 25)
-abbrev pub full : ℕ → Bool
-full n = eqb n (2 ^ 32 - 1)
+-- what marking answers: a refusal, or a verdict with its mask (01 Size, label, wrap, tally)
+abbrev pub MarkAnswer : Type 0
+MarkAnswer = Answer (Verdict × ℕ)
 
--- marking, with the counts of the tally: 25, then what is refused without a tally (01 Refusals)
-unfoldable pub markingRefusal : List ℕ → List ℕ → ℕ → ℕ → ℕ
-markingRefusal counts s room numbers = first (25 when (any full counts) ∷ sheetMarkingRefusal s room numbers ∷ [])
+-- what is said of a sheet: its verdict and its mask (01 Derived tree and run)
+abbrev pub sheetMark : List ℕ → Verdict × ℕ
+sheetMark s = (sheetVerdict s, sheetMask s)
+
+-- Marking for a candidate. The counts of a tally are 48 numbers, three for each of sixteen candidates: those of candidate c at 3 · c, 3 · c + 1 and
+-- 3 · c + 2, which are accepted, declined and turned away.
+
+-- candidate c's count at place w of its three (02 R-1)
+abbrev pub tallyCount : List ℕ → ℕ → ℕ → ℕ
+tallyCount counts c w = getD counts (3 * c + w) 0
+
+-- candidate c's line: its three counts (02 R-1)
+abbrev pub tallyLine : List ℕ → ℕ → List ℕ
+tallyLine counts c = tallyCount counts c 0 ∷ tallyCount counts c 1 ∷ tallyCount counts c 2 ∷ []
+
+-- a number that no candidate has (02 R-1)
+abbrev pub unknown : ℕ → Bool
+unknown c = ltb 15 c
+
+-- the largest count: 4,294,967,295 (01 Refusals, 25)
+abbrev pub largestCount : ℕ
+largestCount = 2 ^ 32 - 1
+
+-- a count that cannot move on (01 Refusals, 25)
+abbrev pub full : ℕ → Bool
+full n = eqb n largestCount
+
+-- what the tally refuses to candidate c, in a step and in a marking: 26, 25 (02 R-1)
+abbrev pub tallyRefusal : List ℕ → ℕ → ℕ
+tallyRefusal counts c = first (26 when (unknown c) ∷ 25 when (any full (tallyLine counts c)) ∷ [])
+
+-- marking for candidate c: 26, 25, then what is refused without a tally (02 R-1)
+abbrev pub markingRefusal : List ℕ → ℕ → List ℕ → ℕ → ℕ → ℕ
+markingRefusal counts c s room numbers = orElse (tallyRefusal counts c) (sheetMarkingRefusal s room numbers)
 
 -- Calls on a form: 3, 4, (14 to 16 for a mask), 18, 19, then 20 or 21.
 

@@ -1,6 +1,6 @@
--- Sheets and calls with what must come out (document 01, "Refusals with a sheet for each" and "Sheets for the desk"), as bytes.
+-- Sheets and calls with what must come out (document 01, "Refusals with a sheet for each" and "Sheets for the desk", and document 02), as bytes.
 use mathlib.Core.List.{List, [], _∷_, _++_}
-use Prim.Native.Nat.{ℕ, zero, suc, _-_, _^_, _/_, _%_}
+use Prim.Native.Nat.{ℕ, zero, suc, _+_, _*_, _-_, _^_, _/_, _%_}
 use lib.ListN.{take, drop, set, replicate}
 use Rattle.terms.specs.Tree.{preorder}
 use Rattle.terms.specs.Sheet.{nodesOf, Verdict, accepted, declined, sheetTree, sheetMask, sheetVerdict, wrapped}
@@ -183,6 +183,10 @@ pub record CallRow : Type 0 where
 abbrev pub is : ℕ → ℕ → CallRow
 is n m = record { gives = n ∷ []; says = m ∷ [] }
 
+-- a tally's counts, all 0 but candidate c's count at place w, which is n (02 R-1)
+abbrev pub counting : ℕ → ℕ → ℕ → List ℕ
+counting c w n = set (replicate 48 0) (3 * c + w) n
+
 -- a form for W's tree: 0 is a, 1 is h(y), 2 is f(y, a), 3 is h(h(y)), 4 is f(h(y), a), 5 is f(h(h(h(y))), a), 6 is h(a), 7, the start, is
 -- f(h(h(h(h(a)))), a), and 8 is f(h(a), a) (01 Sheets for the desk)
 unfoldable pub form : List ℕ
@@ -260,7 +264,7 @@ fieldRefusals =
     ∷ is (formWith 86 0x00) 18
     ∷ []
 
--- refusals 17 to 25, the order of each call's refusals, and what the calls on a form answer (01 Refusals)
+-- refusals 17 to 26, the order of each call's refusals, and what the calls on a form answer (01 Refusals, 02 R-1)
 unfoldable pub calls : List CallRow
 calls =
     -- right-side nodes
@@ -273,18 +277,29 @@ calls =
     ∷ is (makingRefusal W 2115) 17
     ∷ is (makingRefusal W 2116) 0
     ∷ is (makingRefusal (wWith 34 0x03) 0) 16
-    -- marking: 25, 1 to 16, 17, 19
+    -- marking: 1 to 16, 17, 19
     ∷ is (sheetMarkingRefusal W 2116 176) 0
     ∷ is (sheetMarkingRefusal W 2115 175) 17
     ∷ is (sheetMarkingRefusal W 2116 175) 19
-    ∷ is (markingRefusal (0 ∷ 0 ∷ 0 ∷ []) W 2116 176) 0
-    ∷ is (markingRefusal (0 ∷ 0 ∷ 0 ∷ []) W 2116 175) 19
-    ∷ is (markingRefusal (0 ∷ 0 ∷ 0 ∷ []) W 2115 175) 17
-    ∷ is (markingRefusal (0 ∷ 0 ∷ 0 ∷ []) [] 0 0) 1
-    ∷ is (markingRefusal (4_294_967_295 ∷ 0 ∷ 0 ∷ []) [] 0 0) 25
-    ∷ is (markingRefusal (0 ∷ 4_294_967_295 ∷ 0 ∷ []) W 2116 176) 25
-    ∷ is (markingRefusal (0 ∷ 0 ∷ 4_294_967_295 ∷ []) W 2116 176) 25
-    ∷ is (markingRefusal (4_294_967_294 ∷ 0 ∷ 0 ∷ []) W 2116 176) 0
+    -- marking for a candidate: 26, 25, 1 to 16, 17, 19
+    ∷ is (markingRefusal (counting 2 0 0) 2 W 2116 176) 0
+    ∷ is (markingRefusal (counting 2 0 0) 2 W 2116 175) 19
+    ∷ is (markingRefusal (counting 2 0 0) 2 W 2115 175) 17
+    ∷ is (markingRefusal (counting 2 0 0) 2 [] 0 0) 1
+    -- one of candidate 2's counts is full, each in turn; those of the others may be
+    ∷ is (markingRefusal (counting 2 0 4_294_967_295) 2 [] 0 0) 25
+    ∷ is (markingRefusal (counting 2 1 4_294_967_295) 2 [] 0 0) 25
+    ∷ is (markingRefusal (counting 2 2 4_294_967_295) 2 [] 0 0) 25
+    ∷ is (markingRefusal (counting 2 0 4_294_967_294) 2 W 2116 176) 0
+    ∷ is (markingRefusal (counting 2 0 4_294_967_295) 3 W 2116 176) 0
+    ∷ is (markingRefusal (counting 2 2 4_294_967_295) 3 W 2116 176) 0
+    ∷ is (markingRefusal (counting 2 0 4_294_967_295) 1 W 2116 176) 0
+    ∷ is (markingRefusal (counting 15 2 4_294_967_295) 15 [] 0 0) 25
+    -- no candidate has the number, whatever the counts and the sheet are
+    ∷ is (markingRefusal (counting 2 0 0) 16 [] 0 0) 26
+    ∷ is (markingRefusal (counting 0 0 4_294_967_295) 16 [] 0 0) 26
+    ∷ is (markingRefusal (replicate 51 4_294_967_295) 16 [] 0 0) 26
+    ∷ is (markingRefusal (counting 2 0 0) 256 W 2116 176) 26
     -- evaluation: 3, 4, 14 to 16, 18, 19
     ∷ is (evaluationRefusal wAlphabet wAutomaton form 9) 0
     ∷ is (evaluationRefusal wAlphabet wAutomaton form 8) 19

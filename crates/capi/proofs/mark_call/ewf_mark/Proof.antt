@@ -6,19 +6,19 @@ use Rattle.capi.proofs.Marked.{short-marked, marked}
 use Rattle.capi.proofs.mark_call.ewf_mark.Statement.{statement}
 use Rattle.capi.proofs.mark_call.ewf_mark.Tie as tie
 
--- marking and counting, seen from where the slices are given back
-abbrev called : tie.After-slice-known6 → tie.After-mark-and-count
+-- marking, seen from where the slices are given back
+abbrev called : tie.After-slice-known6 → tie.After-mark-among
 called c = c .before .before .before .before .before .before
 
--- the tally has three counts
-abbrev enough : tie.After-mark-and-count → tie.Else1
+-- the tally has its 48 counts
+abbrev enough : tie.After-mark-among → tie.Else1
 enough c = c .before .before .before .before
 
 returns : tie.Need-returns
-returns c = short-marked _ _ _ _ _ _ (c .if1 .taken)
+returns c = short-marked _ _ _ _ _ _ _ (c .if1 .taken)
 
-mark-and-count-requires : tie.Need-mark-and-count-requires
-mark-and-count-requires c κs = search needs
+mark-among-requires : tie.Need-mark-among-requires
+mark-among-requires c κs = search needs
 
 enum-known-n : tie.Need-enum-known-n
 enum-known-n c = search needs
@@ -42,8 +42,8 @@ returns-2 : tie.Need-returns-2
 returns-2 c =
     let told = c .before in
     let call = called (told .before .before) in
-    let did = call .mark-and-count .ensures in
-    marked _ _ _ _ _ _ (enough call .if1 .left) _ _ _ _ _ (did .0) (did .1 .0) (did .1 .1) (ap answerOfMark (told .n .given .1))
+    let did = call .mark-among .ensures in
+    marked _ _ _ _ _ _ _ (enough call .if1 .left) _ _ _ _ _ (did .0) (did .1 .0) (did .1 .1) (ap answerOfMark (told .n .given .1))
 
 same-length-4 : tie.Need-same-length-4
 same-length-4 c = search needs
@@ -58,8 +58,8 @@ returns-3 : tie.Need-returns-3
 returns-3 c =
     let told = c .before in
     let call = called (told .before .before) in
-    let did = call .mark-and-count .ensures in
-    marked _ _ _ _ _ _ (enough call .if1 .left) _ _ _ _ _ (did .0) (did .1 .0) (did .1 .1) (ap answerOfMark (told .states .given .1))
+    let did = call .mark-among .ensures in
+    marked _ _ _ _ _ _ _ (enough call .if1 .left) _ _ _ _ _ (did .0) (did .1 .0) (did .1 .1) (ap answerOfMark (told .states .given .1))
 
 same-length-7 : tie.Need-same-length-7
 same-length-7 c = search needs
@@ -74,15 +74,15 @@ returns-4 : tie.Need-returns-4
 returns-4 c =
     let told = c .before in
     let call = called (told .before .before) in
-    let did = call .mark-and-count .ensures in
-    marked _ _ _ _ _ _ (enough call .if1 .left) _ _ _ _ _ (did .0) (did .1 .0) (did .1 .1) (ap answerOfMark (told .states2 .given .1))
+    let did = call .mark-among .ensures in
+    marked _ _ _ _ _ _ _ (enough call .if1 .left) _ _ _ _ _ (did .0) (did .1 .0) (did .1 .1) (ap answerOfMark (told .states2 .given .1))
 
 pub ewf-mark-spec : {M : Type 1} → statement M
 ewf-mark-spec =
     tie.close
     (tie.spec
     returns
-    mark-and-count-requires
+    mark-among-requires
     enum-known-n
     enum-known-states
     enum-known-states-2
