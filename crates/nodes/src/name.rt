@@ -11,9 +11,9 @@ ghost use Rattle.nodes.specs.Nodes.{naming, ruledBy, HasRank};
 // Node bytes: terminals, a gap, rules, parameters, and nothing from there on.
 const PAST_TERMINALS: u8 = 0x20;
 
-const FIRST_RULE: u8 = 0x40;
+pub const FIRST_RULE: u8 = 0x40;
 
-const FIRST_PARAMETER: u8 = 0x80;
+pub const FIRST_PARAMETER: u8 = 0x80;
 
 const PAST_PARAMETERS: u8 = 0x84;
 

@@ -1,4 +1,4 @@
--- Refusals by number (document 01, "Refusals with a sheet for each", and document 02): 1 to 26, and 0 where nothing is refused.
+-- Refusals by number (document 01, "Refusals with a sheet for each", and document 02), and 0 where nothing is refused.
 use mathlib.Core.Bool.{Bool, true, false, _||_}
 use mathlib.Core.List.{List, [], _∷_}
 use Prim.Native.Nat.{ℕ, zero, suc}

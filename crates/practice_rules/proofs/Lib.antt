@@ -1,0 +1,4 @@
+pub mod Drawing
+pub mod Numbers
+pub mod Written
+pub mod Reached

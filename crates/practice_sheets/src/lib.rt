@@ -1,0 +1,2 @@
+// Practice sheets by number.
+pub mod practice;

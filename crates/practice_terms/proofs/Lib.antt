@@ -1,0 +1,7 @@
+pub mod Choices
+pub mod Body
+pub mod Rules
+pub mod Passes
+pub mod Tree
+pub mod Sheet
+pub mod Examples

@@ -1,0 +1,5 @@
+pub mod Draw
+pub mod Practice
+pub mod Described
+pub mod Claims
+pub mod Examples

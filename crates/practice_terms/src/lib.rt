@@ -1,0 +1,1 @@
+// Practice sheets by number: their meaning and its laws (document 02, R-2).
