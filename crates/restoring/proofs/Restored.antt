@@ -1,4 +1,4 @@
--- A tree that was wrapped, made a form and unfolded is the tree given.
+-- A sheet that was written, made a form and unfolded gives back its tree.
 use mathlib.Core.Path.{_≡_, refl, ap, subst, _∙_}
 use mathlib.Core.List.{List}
 use Prim.Native.Nat.{ℕ, _*_, _≤_}
@@ -6,28 +6,28 @@ use native.Mathlib.Omega.{arith}
 use lib.ListN.{length, take}
 use lib.Seq.{take-append-seam}
 use Rattle.terms.specs.Tree.{preorder}
-use Rattle.terms.specs.Sheet.{sheetTree, wrapped}
+use Rattle.terms.specs.Sheet.{alphabetOf, sheetTree}
+use Rattle.terms.specs.Check.{sheetRefusal}
 use Rattle.terms.specs.FormBytes.{ruleCount, formLength, formTree}
-use Rattle.terms.specs.Answer.{Answer, refused, answered, answer, answerOfLength}
-use Rattle.terms.specs.Calls.{rulesAsked, countsPerRule, unfoldingRefusal, wrapRefusal}
+use Rattle.terms.specs.Answer.{Answer, refused, answered, answerOfLength}
+use Rattle.terms.specs.Calls.{rulesAsked, countsPerRule, unfoldingRefusal}
 use Rattle.terms.specs.Demand.{FormOfSheet, Demand3}
 use Rattle.terms.proofs.Demand.{making-passes, form-meets}
-use Rattle.terms.proofs.Sheet.Wrap.{Wrapped, wrap-right}
 use Rattle.making.specs.Making.{Makes}
 use Rattle.making.proofs.Formed.{wrote, none-refused}
 use Rattle.unfolding.specs.Unfolding.{Unfolded}
-use Rattle.restoring.specs.Restore.{MadeFrom, UnfoldedFrom, RestoringSlices, RestoringCalls, TreeBack}
-use Rattle.restoring.specs.declared.restore.Restoring.{Restoring}
+use Rattle.restoring.specs.Restore.{MadeFrom, UnfoldedFrom, RestoringSlices, RestoringCalls, Restored, TreeBack}
+use Rattle.restoring.specs.declared.written.Restoring.{Restoring}
 use Rattle.unfolding.proofs.Unfolded.{unfolds, tree-first}
 
-module _ (alphabet tree automaton : List ℕ) (r : Restoring) (lent left : RestoringSlices) (passes : wrapRefusal alphabet tree automaton (length (lent .sheet)) ≡ 0)
-    (room : formLength (rulesAsked (wrapped alphabet tree automaton)) ≤ length (lent .form)) where
-  abbrev sheet : List ℕ
-  sheet = wrapped alphabet tree automaton
+-- the sheet is not refused, and its alphabet and its tree are these
+pub record SheetOf (sheet alphabet tree : List ℕ) : Type 0 where
+  pub passes : sheetRefusal sheet ≡ 0
+  pub alphabet-given : alphabetOf sheet ≡ alphabet
+  pub tree-given : preorder (sheetTree sheet) ≡ tree
 
-  is : Wrapped alphabet tree automaton
-  is = wrap-right alphabet tree automaton (length (lent .sheet)) passes
-
+module _ (alphabet sheet tree : List ℕ) (is : SheetOf sheet alphabet tree) (r : Restoring) (lent left : RestoringSlices)
+    (room : formLength (rulesAsked sheet) ≤ length (lent .form)) where
   size : length (preorder (sheetTree sheet)) ≡ length tree
   size = ap length (is .tree-given)
 
@@ -57,11 +57,16 @@ module _ (alphabet tree automaton : List ℕ) (r : Restoring) (lent left : Resto
   by-answer (refused n) e k u = absurd (none-refused k refl (making-passes sheet (is .passes) (length (lent .form)) room))
   by-answer (answered n) e k u =
       let formed = wrote k refl .formed in
-      record { written = n; made = e; back = λ h k. (nodes-written n formed u h k, tree-written n formed u h k) }
+      record { bytes = n; made = e; back = λ h k. (nodes-written n formed u h k, tree-written n formed u h k) }
 
-  pub calls-restore : RestoringCalls alphabet tree automaton r lent left → TreeBack tree r lent left
-  calls-restore c =
-      let w : answerOfLength (r .wrapped) ≡ answered (length sheet) = c .wraps ∙ ap (λ (z : ℕ). answer z (length sheet)) passes in
-      let s : take (length sheet) (left .sheet) ≡ sheet = rw (c .writes, passes) (take-append-seam sheet _) in
-      let m = rw s at (subst (λ (x : Answer ℕ). MadeFrom x (left .sheet) (answerOfLength (r .made)) (left .form) (lent .form)) w (c .makes)) in
+  by-calls : RestoringCalls alphabet 0 sheet r lent left → TreeBack tree r lent left
+  by-calls c =
+      let s : take (length sheet) (left .sheet) ≡ sheet = rw (c .writes) (take-append-seam sheet _) in
+      let m = rw s at (subst (λ (x : Answer ℕ). MadeFrom x (left .sheet) (answerOfLength (r .made)) (left .form) (lent .form)) (c .answers) (c .makes)) in
       by-answer (answerOfLength (r .made)) refl m (c .unfolds)
+
+-- where n is what writing the sheet is refused by
+pub calls-restore : (alphabet : List ℕ) (n : ℕ) (sheet tree : List ℕ) → (n ≡ 0 → SheetOf sheet alphabet tree) → (r : Restoring) (lent left : RestoringSlices)
+    → RestoringCalls alphabet n sheet r lent left → Restored n sheet tree r lent left
+calls-restore alphabet n sheet tree is r lent left c e room =
+    by-calls alphabet sheet tree (is e) r lent left room (subst (λ (k : ℕ). RestoringCalls alphabet k sheet r lent left) e c)

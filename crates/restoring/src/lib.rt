@@ -1,2 +1,4 @@
-// A tree wrapped into a sheet, made a form and unfolded: it comes back.
+// A sheet that was written, made a form and unfolded: its tree comes back.
+pub mod practice;
 pub mod restore;
+pub mod written;

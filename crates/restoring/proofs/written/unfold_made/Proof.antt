@@ -1,4 +1,4 @@
--- `restoring::restore::unfold_made` meets its contract.
+-- `restoring::written::unfold_made` meets its contract.
 use mathlib.Core.Path.{sym, ap, subst}
 use lib.ListN.{length}
 use lib.Seq.{length-take-le}
@@ -7,8 +7,8 @@ use Rattle.terms.specs.Answer.{answerOfLength}
 use Rattle.terms.specs.Private.Within.{Within}
 use Rattle.terms.specs.declared.answers.LengthAnswer.{LengthAnswer}
 use Rattle.restoring.proofs.Handed.{none-unfolded, form-unfolded}
-use Rattle.restoring.proofs.restore.unfold_made.Statement.{statement}
-use Rattle.restoring.proofs.restore.unfold_made.Tie as tie
+use Rattle.restoring.proofs.written.unfold_made.Statement.{statement}
+use Rattle.restoring.proofs.written.unfold_made.Tie as tie
 
 -- where the function starts, seen from before the match
 abbrev begin : tie.After-slice-known2 → tie.Start

@@ -1,4 +1,4 @@
--- `restoring::restore::make_wrapped` meets its contract.
+-- `restoring::written::make_written` meets its contract.
 use mathlib.Core.Path.{sym, ap, subst}
 use lib.ListN.{length}
 use lib.Seq.{length-take-le}
@@ -8,20 +8,20 @@ use Rattle.terms.specs.Private.Within.{Within}
 use Rattle.terms.specs.declared.answers.LengthAnswer.{LengthAnswer}
 use Rattle.making.proofs.Formed.{makes}
 use Rattle.restoring.proofs.Handed.{none-made, sheet-made}
-use Rattle.restoring.proofs.restore.make_wrapped.Statement.{statement}
-use Rattle.restoring.proofs.restore.make_wrapped.Tie as tie
+use Rattle.restoring.proofs.written.make_written.Statement.{statement}
+use Rattle.restoring.proofs.written.make_written.Tie as tie
 
-enum-known-wrapped : tie.Need-enum-known-wrapped
-enum-known-wrapped c = search needs
+enum-known-written : tie.Need-enum-known-written
+enum-known-written c = search needs
 
-enum-known-wrapped-2 : tie.Need-enum-known-wrapped-2
-enum-known-wrapped-2 c = search needs
+enum-known-written-2 : tie.Need-enum-known-written-2
+enum-known-written-2 c = search needs
 
 slice-aggregate-make-form : tie.Need-slice-aggregate-make-form
 slice-aggregate-make-form c =
     let told = c .before .before in
     let start = told .before .before .before .before in
-    sym (length-take-le _ (start .args .sheet .now) (subst (λ (w : LengthAnswer). Within (answerOfLength w) (length (start .args .sheet .now))) (told .wrapped2 .given .1) (start .pre)))
+    sym (length-take-le _ (start .args .sheet .now) (subst (λ (w : LengthAnswer). Within (answerOfLength w) (length (start .args .sheet .now))) (told .written2 .given .1) (start .pre)))
 
 make-form-requires : tie.Need-make-form-requires
 make-form-requires c κs = search needs
@@ -30,7 +30,7 @@ returns : tie.Need-returns
 returns c =
     let told = c .before in
     let given = told .before .before .before .before .args in
-    none-made (given .sheet .now) (ap answerOfLength (told .wrapped .given .1)) (given .form .now)
+    none-made (given .sheet .now) (ap answerOfLength (told .written .given .1)) (given .form .now)
 
 same-length : tie.Need-same-length
 same-length c = search needs
@@ -40,14 +40,14 @@ returns-2 c =
     let call = c .before .before in
     let told = call .before .before .before .before in
     let given = told .before .before .before .before .args in
-    sheet-made (given .sheet .now) (ap answerOfLength (told .wrapped2 .given .1)) _ _ (given .form .now) (makes _ (given .form .now) (call .make-form .ensures))
+    sheet-made (given .sheet .now) (ap answerOfLength (told .written2 .given .1)) _ _ (given .form .now) (makes _ (given .form .now) (call .make-form .ensures))
 
-pub make-wrapped-spec : {M : Type 1} → statement M
-make-wrapped-spec =
+pub make-written-spec : {M : Type 1} → statement M
+make-written-spec =
     tie.close
     (tie.spec
-    enum-known-wrapped
-    enum-known-wrapped-2
+    enum-known-written
+    enum-known-written-2
     slice-aggregate-make-form
     make-form-requires
     returns
