@@ -15,7 +15,7 @@
  *
  * Stack. The most bytes that each call was seen to take, on the inputs of link/stack.c, which go deepest; link/stack measures them anew.
  *   ewf_make_form 10,900    ewf_mark 11,076      ewf_evaluate 3,304     ewf_size 152     ewf_label 33,016
- *   ewf_read_rule 56        ewf_unfold 329,760   ewf_walk 524,924       ewf_wrap 216
+ *   ewf_read_rule 56        ewf_unfold 329,760   ewf_walk 524,924       ewf_wrap 216     ewf_practice 168
  * Unfolding takes 144 bytes for each level of a form's rules, the walk 128 for each level of its tree. No other call goes deeper with
  * what it is given, save making and marking, which take 8,212 to 8,516 and 8,388 to 8,692 on the sheets W, K7 and billions of samples/. */
 #ifndef EWERFLINT_H
@@ -56,7 +56,8 @@ enum ewf_refusal {
     EWF_TREE = 23,             /* the bytes are not one tree over the alphabet */
     EWF_SHEET_SHORT = 24,      /* the slice for the sheet is too short */
     EWF_TALLY_FULL = 25,       /* some count of the candidate is 4,294,967,295 */
-    EWF_CANDIDATE = 26         /* the number of a candidate is over 15 */
+    EWF_CANDIDATE = 26,        /* the number of a candidate is over 15 */
+    EWF_DRAWN_RULES = 27       /* no rule of a practice sheet is to be drawn, or over 20 */
 };
 
 /* The lengths that calls ask for, in elements, by G and R. */
@@ -84,6 +85,11 @@ enum ewf_refusal {
 #define EWF_LONGEST_FORM EWF_FORM_LENGTH(EWF_MOST_RULES)
 #define EWF_MOST_COUNTS EWF_COUNTS(EWF_MOST_RULES)
 #define EWF_MOST_WALKED 4096                           /* the nodes of a tree that is walked */
+#define EWF_MOST_DRAWN 20                              /* the rules of a practice sheet that are drawn */
+
+/* The alphabet of practice sheets: terminals 0, 1 and 2 are a, h and f, of the ranks 0, 1 and 2. */
+#define EWF_PRACTICE_TERMINALS 3
+#define EWF_PRACTICE_ALPHABET {0, 1, 2}
 
 /* The one-hole form of a sheet, and its length.
  * form: EWF_FORM_ASKED(G) bytes, EWF_LONGEST_FORM at most.
@@ -152,6 +158,15 @@ uint8_t ewf_wrap(const uint8_t *alphabet, size_t alphabet_length,
                  const uint8_t *automaton, size_t automaton_length,
                  uint8_t *sheet, size_t sheet_length,
                  size_t *length);
+
+/* The practice sheet of a first x and m, and its length: rule 0 is h(y1), rules 1 to m are drawn from the first x on, and the last rule is
+ * rule m called on a. The same numbers and the same automaton give the same sheet everywhere, and it passes 1 to 16.
+ * m: 1 to EWF_MOST_DRAWN; automaton: over EWF_PRACTICE_ALPHABET; sheet: EWF_LONGEST_SHEET bytes are enough.
+ * Refused by 27 (m), 14, 15, 16, 24. */
+uint8_t ewf_practice(uint32_t first, size_t m,
+                     const uint8_t *automaton, size_t automaton_length,
+                     uint8_t *sheet, size_t sheet_length,
+                     size_t *length);
 
 /* Marks a sheet of a candidate: verdict 1 accepted, 0 declined, and the mask. It ends as form making and evaluation leave form and
  * relations.

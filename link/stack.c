@@ -181,6 +181,16 @@ static void *wrap(void *unused)
     return unused;
 }
 
+static void *practice(void *unused)
+{
+    static const uint8_t bare[2] = {0x01, 0x00};
+    static uint8_t sheet[EWF_LONGEST_SHEET];
+    size_t length;
+
+    require(ewf_practice(0, EWF_MOST_DRAWN, bare, sizeof bare, sheet, sizeof sheet, &length));
+    return unused;
+}
+
 /* How many bytes of a painted stack a thread writes over. */
 static size_t taken(void *(*call)(void *))
 {
@@ -213,7 +223,7 @@ int main(void)
         void *(*call)(void *);
     } calls[] = {
         {"make form", make}, {"mark", mark}, {"evaluate", evaluate}, {"size", size}, {"label", label}, {"unfold", unfold},
-        {"read rule", read_rule}, {"walk, chain", walk_chain}, {"walk, comb", walk_comb}, {"wrap", wrap},
+        {"read rule", read_rule}, {"walk, chain", walk_chain}, {"walk, comb", walk_comb}, {"wrap", wrap}, {"practice", practice},
     };
     size_t nothing = taken(empty);
 

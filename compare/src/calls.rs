@@ -1,7 +1,7 @@
-//! The nine calls, in the shape of the C interface: each returns 0 or a refusal's number, and
+//! The ten calls, in the shape of the C interface: each returns 0 or a refusal's number, and
 //! results go through the `&mut` arguments, which a refusal leaves as they were.
 
-/// The calls whose results document 01 fixes.
+/// The calls whose results the documents fix.
 pub trait FixedCalls {
     fn evaluate(
         &self,
@@ -49,6 +49,16 @@ pub trait FixedCalls {
         &self,
         alphabet: &[u8],
         tree: &[u8],
+        automaton: &[u8],
+        sheet: &mut [u8],
+        length: &mut usize,
+    ) -> u8;
+
+    /// The sheet that the draws from the first x give, with rules 1 to m drawn.
+    fn practice(
+        &self,
+        first: u32,
+        m: usize,
         automaton: &[u8],
         sheet: &mut [u8],
         length: &mut usize,

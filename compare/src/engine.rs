@@ -82,6 +82,15 @@ unsafe extern "C" {
         sheet_length: usize,
         length: *mut usize,
     ) -> u8;
+    fn ewf_practice(
+        first: u32,
+        m: usize,
+        automaton: *const u8,
+        automaton_length: usize,
+        sheet: *mut u8,
+        sheet_length: usize,
+        length: *mut usize,
+    ) -> u8;
     fn ewf_mark(
         sheet: *const u8,
         sheet_length: usize,
@@ -98,10 +107,11 @@ unsafe extern "C" {
 }
 
 /// A call of the C interface: slices read, slices lent, plain numbers, more slices lent, places of
-/// results. A slice becomes its pointer and its length.
+/// results; numbers that come before all slices stand in brackets. A slice becomes its pointer and
+/// its length.
 macro_rules! call {
     (
-        $function:ident(
+        $function:ident $([$($leading:ident),*])? (
             $($read:ident),*;
             $($lent:ident),*; $($number:ident),*; $($more:ident),*;
             $($result:ident),*
@@ -111,6 +121,7 @@ macro_rules! call {
         // given nothing that it may not read or write.
         unsafe {
             $function(
+                $($($leading,)*)?
                 $($read.as_ptr(), $read.len(),)*
                 $($lent.as_mut_ptr(), $lent.len(),)*
                 $($number,)*
@@ -186,6 +197,17 @@ impl FixedCalls for Ewerflint {
         length: &mut usize,
     ) -> u8 {
         call!(ewf_wrap(alphabet, tree, automaton; sheet; ; ; length))
+    }
+
+    fn practice(
+        &self,
+        first: u32,
+        m: usize,
+        automaton: &[u8],
+        sheet: &mut [u8],
+        length: &mut usize,
+    ) -> u8 {
+        call!(ewf_practice[first, m](automaton; sheet; ; ; length))
     }
 }
 

@@ -1,4 +1,4 @@
-//! Refusals: the numbers of document 01's table, and 26 of document 02.
+//! Refusals: the numbers of document 01's table, and 26 and 27 of document 02.
 
 /// A refusal's number.
 #[derive(Clone, Copy, Debug, PartialEq, Eq)]
@@ -8,7 +8,7 @@ pub struct Refusal(pub u8);
 pub type Answer<T> = Result<T, Refusal>;
 
 /// The highest number.
-pub const LAST: u8 = 26;
+pub const LAST: u8 = 27;
 
 /// Puts an answer through a pointer as the C interface does: a refusal leaves the place alone.
 pub fn settle<T>(answer: Answer<T>, place: &mut T) -> u8 {

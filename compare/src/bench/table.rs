@@ -1,5 +1,6 @@
 //! The table of times.
 
+use super::practice;
 use super::subjects::Subject;
 use super::timing::best;
 use crate::calls::Engine;
@@ -46,7 +47,8 @@ struct Prepared {
     form: Vec<u8>,
 }
 
-/// One line for each sheet and call: microseconds, and the engine's time over the other way's.
+/// One line for each sheet and call, and one for a practice sheet: microseconds, and the engine's
+/// time over the other way's.
 pub fn print(engine: &dyn Engine, subjects: &[Subject]) {
     println!(
         "{:16} {:10} {:>12} {:>12} {:>7} {:>14} {:>9}",
@@ -62,19 +64,26 @@ pub fn print(engine: &dyn Engine, subjects: &[Subject]) {
             println!("{:16} {}", subject.name, line(engine, &prepared, call));
         }
     }
+    let (_, columns) = beside(engine, "practice", practice::time);
+    println!("{:16} {columns}", practice::NAME);
 }
 
 fn line(engine: &dyn Engine, prepared: &Prepared, call: Call) -> String {
-    let (mut ours, mut theirs) = (f64::INFINITY, f64::INFINITY);
-    for _ in 0..ROUNDS {
-        ours = ours.min(time(engine, prepared, call));
-        theirs = theirs.min(time(&Idiomatic, prepared, call));
-    }
-    let mut line = format!("{:10} {ours:12.3} {theirs:12.3} {:7.2}", call.name(), ours / theirs);
+    let (ours, mut line) = beside(engine, call.name(), |engine| time(engine, prepared, call));
     if let Some(other) = theorem_time(prepared, call) {
         line += &format!(" {other:14.3} {:9.4}", ours / other);
     }
     line
+}
+
+/// The engine's time, and the columns of it beside idiomatic Rust.
+fn beside(engine: &dyn Engine, call: &str, time: impl Fn(&dyn Engine) -> f64) -> (f64, String) {
+    let (mut ours, mut theirs) = (f64::INFINITY, f64::INFINITY);
+    for _ in 0..ROUNDS {
+        ours = ours.min(time(engine));
+        theirs = theirs.min(time(&Idiomatic));
+    }
+    (ours, format!("{call:10} {ours:12.3} {theirs:12.3} {:7.2}", ours / theirs))
 }
 
 /// The form is the engine's, for both.

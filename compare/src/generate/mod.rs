@@ -7,6 +7,7 @@ pub mod damage;
 pub mod form_damage;
 pub mod forms;
 pub mod plan;
+pub mod practice;
 pub mod random;
 pub mod right_side;
 pub mod shapes;

@@ -3,11 +3,13 @@
 use super::checker::Checker;
 use super::difference::Checked;
 use crate::generate::random::Random;
-use crate::generate::{alphabets, automata, bytes, damage, form_damage, forms, sheets, trees};
+use crate::generate::{
+    alphabets, automata, bytes, damage, form_damage, forms, practice, sheets, trees,
+};
 
 impl Checker<'_> {
     pub fn case(&mut self, random: &mut Random) -> Checked<()> {
-        match random.below(16) {
+        match random.below(18) {
             0..=4 => {
                 let sheet = sheets::plan(random).sheet();
                 self.sheet(random, &sheet)
@@ -22,7 +24,11 @@ impl Checker<'_> {
                 self.sheet(random, &sheet)
             }
             10..=12 => self.form_case(random),
-            _ => self.tree_case(random),
+            13..=15 => self.tree_case(random),
+            _ => {
+                let practice = practice::practice(random);
+                self.practice(random, &practice)
+            }
         }
     }
 

@@ -11,6 +11,8 @@ pub mod making;
 pub mod marking;
 pub mod named;
 pub mod named_markings;
+pub mod named_practice;
+pub mod practice;
 pub mod request;
 pub mod run;
 pub mod sheet_calls;

@@ -51,7 +51,8 @@ impl Checker<'_> {
         }
         self.named_markings(random, &w)?;
         self.named_form_calls(random, &w)?;
-        self.named_tree_calls(random, &w)
+        self.named_tree_calls(random, &w)?;
+        self.named_practice(random)
     }
 
     /// The examples of 17, 18, 20 and 21.

@@ -1,4 +1,4 @@
-//! The calls whose results document 01 fixes, each with what it reads.
+//! The calls whose results the documents fix, each with what it reads.
 
 use super::lending::Lent;
 use crate::calls::FixedCalls;
@@ -13,6 +13,7 @@ pub enum Request<'a> {
     ReadRule { alphabet: &'a [u8], form: &'a [u8], number: usize },
     Walk { alphabet: &'a [u8], automaton: &'a [u8], tree: &'a [u8] },
     Wrap { alphabet: &'a [u8], tree: &'a [u8], automaton: &'a [u8] },
+    Practice { first: u32, m: usize, automaton: &'a [u8] },
 }
 
 impl<'a> Request<'a> {
@@ -41,6 +42,9 @@ impl<'a> Request<'a> {
             Request::Wrap { alphabet, tree, automaton } => {
                 engine.wrap(alphabet, tree, automaton, bytes, &mut lent.length)
             }
+            Request::Practice { first, m, automaton } => {
+                engine.practice(first, m, automaton, bytes, &mut lent.length)
+            }
         }
     }
 
@@ -53,6 +57,7 @@ impl<'a> Request<'a> {
             Request::ReadRule { .. } => "read_rule",
             Request::Walk { .. } => "walk",
             Request::Wrap { .. } => "wrap",
+            Request::Practice { .. } => "practice",
         }
     }
 
@@ -63,6 +68,9 @@ impl<'a> Request<'a> {
         match self {
             Request::Label { position, .. } => inputs.push(("position", position.to_string())),
             Request::ReadRule { number, .. } => inputs.push(("number", number.to_string())),
+            Request::Practice { first, m, .. } => {
+                inputs.extend([("first x", first.to_string()), ("m", m.to_string())]);
+            }
             _ => {}
         }
         inputs
@@ -83,6 +91,7 @@ impl<'a> Request<'a> {
             | Request::Wrap { alphabet, tree, automaton } => {
                 vec![("alphabet", alphabet), ("automaton", automaton), ("tree", tree)]
             }
+            Request::Practice { automaton, .. } => vec![("automaton", automaton)],
         }
     }
 }

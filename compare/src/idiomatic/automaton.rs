@@ -27,6 +27,12 @@ pub struct Automaton {
 
 impl Automaton {
     pub fn read(alphabet: Alphabet, bytes: &[u8]) -> Answer<Self> {
+        let (finals, rows) = Automaton::check(alphabet, bytes)?;
+        Ok(Automaton::grouped(finals, rows))
+    }
+
+    /// The final states and the transitions, where no refusal is given.
+    pub fn check<'a>(alphabet: Alphabet, bytes: &'a [u8]) -> Answer<(u8, &'a [[u8; 6]])> {
         let [states, finals, transitions @ ..] = bytes else {
             return Err(Refusal(14));
         };
@@ -42,7 +48,7 @@ impl Automaton {
         if !rows.iter().all(|row| exists(alphabet, *states, row)) {
             return Err(Refusal(16));
         }
-        Ok(Automaton::grouped(*finals, rows))
+        Ok((*finals, rows))
     }
 
     pub fn rows(&self, terminal: u8) -> &[Row] {

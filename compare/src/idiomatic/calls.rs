@@ -1,4 +1,4 @@
-//! The nine calls over the parts of this module.
+//! The ten calls over the parts of this module.
 
 use super::alphabet::Alphabet;
 use super::automaton::Automaton;
@@ -7,6 +7,7 @@ use super::evaluation::evaluate;
 use super::form::{Form, fields};
 use super::making;
 use super::marking::mark;
+use super::practice::practice;
 use super::sheet::Sheet;
 use super::unfolding::Unfolder;
 use super::walking::{self, Walker};
@@ -85,7 +86,7 @@ fn walked(alphabet: &[u8], automaton: &[u8], tree: &[u8], masks: &mut [u8]) -> A
 fn wrapped(alphabet: &[u8], tree: &[u8], automaton: &[u8], sheet: &mut [u8]) -> Answer<usize> {
     let ranks = Alphabet::read(alphabet)?;
     walking::check(ranks, tree, 128)?;
-    Automaton::read(ranks, automaton)?;
+    Automaton::check(ranks, automaton)?;
     wrapping::wrap(alphabet, tree, automaton, sheet)
 }
 
@@ -151,6 +152,17 @@ impl FixedCalls for Idiomatic {
         length: &mut usize,
     ) -> u8 {
         settle(wrapped(alphabet, tree, automaton, sheet), length)
+    }
+
+    fn practice(
+        &self,
+        first: u32,
+        m: usize,
+        automaton: &[u8],
+        sheet: &mut [u8],
+        length: &mut usize,
+    ) -> u8 {
+        settle(practice(first, m, automaton, sheet), length)
     }
 }
 

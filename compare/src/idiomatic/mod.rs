@@ -9,6 +9,7 @@ mod evaluation;
 mod form;
 mod making;
 mod marking;
+mod practice;
 mod preorder;
 mod sheet;
 mod unfolding;

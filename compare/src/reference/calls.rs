@@ -1,5 +1,5 @@
-//! The calls whose results document 01 fixes: all but form making and marking, where the form is
-//! free. Each checks in the document's order and writes to what it is lent only when it refuses
+//! The calls whose results the documents fix: all but form making and marking, where the form is
+//! free. Each checks in the documents' order and writes to what it is lent only when it refuses
 //! nothing.
 
 use super::alphabet::Alphabet;
@@ -7,6 +7,7 @@ use super::automaton::Automaton;
 use super::counts::{self, Count};
 use super::form::{self, Form};
 use super::label;
+use super::practice;
 use super::relations;
 use super::tree::Tree;
 use super::unfolding;
@@ -79,6 +80,19 @@ pub fn wrap(alphabet: &[u8], tree: &[u8], automaton: &[u8], sheet: &mut [u8]) ->
     Automaton::read(&read, automaton)?;
     let rules = [&[0, tree.len() as u8], tree].concat();
     let written = joined(&[alphabet, &rules, automaton]);
+    room(sheet, written.len(), 24)?;
+    put(sheet, &written);
+    Ok(written.len())
+}
+
+/// The practice sheet of a first x, with rules 1 to m drawn.
+pub fn practice(first: u32, m: usize, automaton: &[u8], sheet: &mut [u8]) -> Answer<usize> {
+    if m == 0 || m > 20 {
+        return Err(Refusal(27));
+    }
+    Automaton::read(&Alphabet::read(&practice::ALPHABET)?, automaton)?;
+    let rules = practice::rules(&practice::drawn(first, m));
+    let written = joined(&[&practice::ALPHABET, &rules, automaton]);
     room(sheet, written.len(), 24)?;
     put(sheet, &written);
     Ok(written.len())

@@ -69,4 +69,15 @@ impl FixedCalls for Reference {
     ) -> u8 {
         settle(calls::wrap(alphabet, tree, automaton, sheet), length)
     }
+
+    fn practice(
+        &self,
+        first: u32,
+        m: usize,
+        automaton: &[u8],
+        sheet: &mut [u8],
+        length: &mut usize,
+    ) -> u8 {
+        settle(calls::practice(first, m, automaton, sheet), length)
+    }
 }

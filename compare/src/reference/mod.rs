@@ -1,11 +1,12 @@
-//! Document 01, with R-1 of document 02, in the plainest way: everything is read into trees and
-//! lists, and each meaning is worked out as the documents word it. Speed is no aim here.
+//! Document 01, with of document 02, in the plainest way: everything is read into trees
+//! and lists, and each meaning is worked out as the documents word it. Speed is no aim here.
 
 pub mod alphabet;
 pub mod automaton;
 pub mod calls;
 pub mod counts;
 pub mod derivation;
+pub mod described;
 pub mod facts;
 pub mod fingerprint;
 pub mod fixed_calls;
@@ -13,6 +14,7 @@ pub mod form;
 pub mod label;
 pub mod making;
 pub mod marking;
+pub mod practice;
 pub mod profile;
 pub mod program;
 pub mod relations;

@@ -33,6 +33,9 @@ pub fn answer(call: &Call, stored: &str) -> Result<String, String> {
         Call::Wrap { alphabet, tree, automaton, room } => {
             fixed::wrap(alphabet, tree, automaton, *room)
         }
+        Call::Practice { automaton, first, m, room } => {
+            fixed::practice(*first, *m, automaton, *room)
+        }
         Call::Step { step, tally, candidate } => {
             step_text(*tally, tally::step(*tally, *candidate, *step))
         }

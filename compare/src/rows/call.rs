@@ -17,6 +17,7 @@ pub enum Call {
     Evaluate { alphabet: Vec<u8>, automaton: Vec<u8>, form: Vec<u8>, numbers: usize },
     Walk { alphabet: Vec<u8>, automaton: Vec<u8>, tree: Vec<u8>, room: usize },
     Wrap { alphabet: Vec<u8>, tree: Vec<u8>, automaton: Vec<u8>, room: usize },
+    Practice { automaton: Vec<u8>, first: u32, m: usize, room: usize },
     Step { step: Step, tally: Tally, candidate: usize },
 }
 
@@ -51,6 +52,7 @@ impl Call {
                 form_call(name, &mut fields)?
             }
             name @ ("evaluate" | "walk" | "wrap") => tree_call(name, &mut fields)?,
+            "practice" => practice_call(&mut fields)?,
             "accept" => step_call(Step::Accept, &mut fields)?,
             "decline" => step_call(Step::Decline, &mut fields)?,
             "turn_away" => step_call(Step::TurnAway, &mut fields)?,
@@ -108,6 +110,15 @@ fn tree_call(name: &str, fields: &mut Fields) -> Option<Call> {
         }
         "walk" => Call::Walk { alphabet, automaton: second, tree: third, room: fields.room()? },
         _ => Call::Wrap { alphabet, tree: second, automaton: third, room: fields.room()? },
+    })
+}
+
+fn practice_call(fields: &mut Fields) -> Option<Call> {
+    Some(Call::Practice {
+        automaton: fields.bytes()?,
+        first: fields.first()?,
+        m: fields.m()?,
+        room: fields.room()?,
     })
 }
 

@@ -67,6 +67,16 @@ impl<'a> Fields<'a> {
         Some(self.number()? as usize)
     }
 
+    /// The first x of a practice sheet, which has four bytes.
+    pub fn first(&mut self) -> Option<u32> {
+        Some(self.number()?.min(u64::from(u32::MAX)) as u32)
+    }
+
+    /// How many rules of a practice sheet are drawn, whether so many may be or not.
+    pub fn m(&mut self) -> Option<usize> {
+        Some(self.number()? as usize)
+    }
+
     pub fn ended(&mut self) -> bool {
         self.left.next().is_none()
     }

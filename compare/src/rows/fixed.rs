@@ -1,4 +1,4 @@
-//! The calls whose results document 01 fixes.
+//! The calls whose results the documents fix.
 
 use super::printed::{lent, slice};
 use super::words::{rule_text, said, size_text, told};
@@ -53,4 +53,9 @@ pub fn walk(alphabet: &[u8], automaton: &[u8], tree: &[u8], room: usize) -> Stri
 pub fn wrap(alphabet: &[u8], tree: &[u8], automaton: &[u8], room: usize) -> String {
     let mut sheet = lent(room);
     said("written", calls::wrap(alphabet, tree, automaton, &mut sheet)) + &slice("sheet", &sheet)
+}
+
+pub fn practice(first: u32, m: usize, automaton: &[u8], room: usize) -> String {
+    let mut sheet = lent(room);
+    said("written", calls::practice(first, m, automaton, &mut sheet)) + &slice("sheet", &sheet)
 }

@@ -1,6 +1,7 @@
 //! An engine with one fault.
 
 use crate::marking::Call;
+use crate::practice::Practice;
 use compare::calls::{Engine, FixedCalls};
 use compare::idiomatic::Idiomatic;
 use std::cell::RefCell;
@@ -49,6 +50,32 @@ pub enum Fault {
     TallyOf47Taken,
     ShortTallyAfterCandidate,
     CountsPastWritten,
+    ParityOfX,
+    DrawBeforeStep,
+    ProductLosesHighBit,
+    HighHalfNotMultiplied,
+    ProductStopsAtTop,
+    SumStopsAtTop,
+    InnerDrawnFirst,
+    InnerAlwaysDrawn,
+    NoDrawBelowOne,
+    RemainderByM,
+    LeafBeforeCall,
+    StartCallsRuleBefore,
+    MOf0Taken,
+    MOf20Refused,
+    MOf21Taken,
+    MModulo256,
+    MOfFourBytes,
+    AutomatonBeforeM,
+    ShortBeforeM,
+    ShortBeforeAutomaton,
+    OtherAlphabetChecked,
+    SheetClearedFirst,
+    ShortSheetBegun,
+    LengthToldOnShort,
+    SheetWritesPast,
+    SheetFollowsOldBytes,
 }
 
 pub struct Planted {
@@ -283,6 +310,17 @@ impl FixedCalls for Planted {
             }
         }
         Idiomatic.wrap(alphabet, tree, automaton, sheet, length)
+    }
+
+    fn practice(
+        &self,
+        first: u32,
+        m: usize,
+        automaton: &[u8],
+        sheet: &mut [u8],
+        length: &mut usize,
+    ) -> u8 {
+        self.practised(Practice { first, m, automaton, sheet, length })
     }
 }
 

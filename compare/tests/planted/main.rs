@@ -2,12 +2,13 @@
 
 mod engine;
 mod marking;
+mod practice;
 
 use compare::harness::run::run_generated;
 use engine::{Fault, Planted};
 
 /// Each fault and the call whose difference tells of it.
-const FAULTS: [(Fault, &str); 42] = [
+const FAULTS: [(Fault, &str); 68] = [
     (Fault::OldForm, "make_form"),
     (Fault::ConstantForm, "make_form"),
     (Fault::FormWritesPast, "make_form"),
@@ -50,6 +51,32 @@ const FAULTS: [(Fault, &str); 42] = [
     (Fault::TallyOf47Taken, "mark"),
     (Fault::ShortTallyAfterCandidate, "mark"),
     (Fault::CountsPastWritten, "mark"),
+    (Fault::ParityOfX, "practice"),
+    (Fault::DrawBeforeStep, "practice"),
+    (Fault::ProductLosesHighBit, "practice"),
+    (Fault::HighHalfNotMultiplied, "practice"),
+    (Fault::ProductStopsAtTop, "practice"),
+    (Fault::SumStopsAtTop, "practice"),
+    (Fault::InnerDrawnFirst, "practice"),
+    (Fault::InnerAlwaysDrawn, "practice"),
+    (Fault::NoDrawBelowOne, "practice"),
+    (Fault::RemainderByM, "practice"),
+    (Fault::LeafBeforeCall, "practice"),
+    (Fault::StartCallsRuleBefore, "practice"),
+    (Fault::MOf0Taken, "practice"),
+    (Fault::MOf20Refused, "practice"),
+    (Fault::MOf21Taken, "practice"),
+    (Fault::MModulo256, "practice"),
+    (Fault::MOfFourBytes, "practice"),
+    (Fault::AutomatonBeforeM, "practice"),
+    (Fault::ShortBeforeM, "practice"),
+    (Fault::ShortBeforeAutomaton, "practice"),
+    (Fault::OtherAlphabetChecked, "practice"),
+    (Fault::SheetClearedFirst, "practice"),
+    (Fault::ShortSheetBegun, "practice"),
+    (Fault::LengthToldOnShort, "practice"),
+    (Fault::SheetWritesPast, "practice"),
+    (Fault::SheetFollowsOldBytes, "practice"),
 ];
 
 #[test]

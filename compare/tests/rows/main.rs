@@ -19,7 +19,7 @@ fn the_sample_has_every_call() {
     let (input, output) = sample();
     let found = differences(&input, &output);
     assert!(found.is_empty(), "{}", found.join("\n"));
-    assert_eq!(line::count(&input), 51);
+    assert_eq!(line::count(&input), 59);
 }
 
 /// What is found after the first such text behind the row's name was changed in the output.
@@ -48,6 +48,8 @@ fn a_changed_answer_is_found() {
     planted("nobody", "refused 26, tally 0 (3 1 2)", "refused 26");
     planted("17", "refused 17", "refused 1");
     planted("made", "written 76", "written 88");
+    planted("even", "written 30", "written 31");
+    planted("27", "refused 27", "refused 14");
 }
 
 #[test]
@@ -58,6 +60,8 @@ fn a_changed_slice_is_found() {
     planted("certified", "counts 1 0", "counts 1 1");
     planted("20 h", "21*00", "20*00");
     planted("25", "; form 4 kept", "; form 00, 3 kept");
+    planted("odd", "40 80 00", "00 40 80");
+    planted("24 of practice", "; sheet 29 kept", "; sheet 0c, 28 kept");
 }
 
 #[test]
@@ -79,7 +83,7 @@ fn a_line_too_few_or_too_many_is_found() {
     for missing in 0..lines.len() {
         let left = [&lines[..missing], &lines[missing + 1..]].concat().join("\n");
         let found = differences(&input, &left);
-        assert!(found[0].contains("expected 54 lines\nfound    53"), "{}", found[0]);
+        assert!(found[0].contains("expected 62 lines\nfound    61"), "{}", found[0]);
     }
     assert_eq!(differences(&input, &format!("{output}more\n")).len(), 1);
     assert_eq!(differences(&input, output.trim_end()).len(), 1);

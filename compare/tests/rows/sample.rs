@@ -26,6 +26,13 @@ const MASKS: &str = "masks 01 01 02 01 02 01 01";
 const LEAF: &str = "sheet 0c 00 03 00 0f 00 03 00 12 00 02 00 00 02 01 00 01 00 02 01";
 const LEAF_FORM: &str = "form 01 00 00 00 00 00 00 00 ff ff ff ff ff ff ff ff";
 
+/// Practice sheets of one drawn rule, without transitions: after an even draw, and after an odd one.
+const EVEN: &str = "\
+    sheet 0c 00 03 00 0f 00 0d 00 1c 00 02 00 00 01 02 01 02 01 80 01 03 40 40 80 00 02 41 00 01 00";
+const ODD: &str = "\
+    sheet 0c 00 03 00 0f 00 0e 00 1d 00 02 00 00 01 02 01 02 01 80 01 04 02 40 80 00 00 02 41 00 \
+    01 00";
+
 /// Counts 3, 1 and 2 of candidate 0, and the bytes of candidates without a count.
 const TALLY: &str = "030000000100000002000000";
 const NOBODY: &str = "000000000000000000000000";
@@ -127,6 +134,19 @@ const TREE_CALLS: [(&str, &str); 5] = [
     ("24: wrap $alphabet 00 0201 0", "24: refused 24; sheet 0 kept"),
 ];
 
+const PRACTICE: [(&str, &str); 7] = [
+    ("even: practice 0100 0 1 31", "even: written 30; $even, 1 kept"),
+    ("odd: practice 0100 2 1 31", "odd: written 31; $odd, 0 kept"),
+    ("last x: practice 0100 4294967296 1 40", "last x: written 31; $odd, 9 kept"),
+    ("27: practice - 0 0 4", "27: refused 27; sheet 4 kept"),
+    (
+        "27 far beyond: practice 0100 0 99999999999999999999 64",
+        "27 far beyond: refused 27; sheet 64 kept",
+    ),
+    ("14 of practice: practice 01 0 20 0", "14 of practice: refused 14; sheet 0 kept"),
+    ("24 of practice: practice 0100 0 1 29", "24 of practice: refused 24; sheet 29 kept"),
+];
+
 const STEPS: [(&str, &str); 7] = [
     ("accept: accept $tally 0", "accept: tally 0 (4 1 2)"),
     ("decline: decline $tally 3", "decline: tally 0 (3 1 2) 3 (0 1 0)"),
@@ -137,7 +157,7 @@ const STEPS: [(&str, &str); 7] = [
     ("nobody and no count: accept - 256", "nobody and no count: refused 26, tally"),
 ];
 
-const UNREADABLE: [(&str, &str); 9] = [
+const UNREADABLE: [(&str, &str); 10] = [
     ("half a byte: line 0", "half a byte: unreadable"),
     ("small letters: line 0c", "small letters: unreadable"),
     ("no such call: lines 00", "no such call: unreadable"),
@@ -145,13 +165,14 @@ const UNREADABLE: [(&str, &str); 9] = [
     ("too many: line 00 00", "too many: unreadable"),
     ("no number: accept 03 x", "no number: unreadable"),
     ("three counts: accept 3 1 2", "three counts: unreadable"),
+    ("no room: practice 0100 0 1", "no room: unreadable"),
     ("no call:", "no call: unreadable"),
     ("no colon", "no colon: unreadable"),
 ];
 
 /// The input and the output.
 pub fn sample() -> (String, String) {
-    let calls = [&SHEET_CALLS[..], &MARKINGS, &FORM_CALLS, &TREE_CALLS, &STEPS];
+    let calls = [&SHEET_CALLS[..], &MARKINGS, &FORM_CALLS, &TREE_CALLS, &PRACTICE, &STEPS];
     let parts = [&HEADINGS[..], &calls.concat(), &UNREADABLE];
     let (rows, lines): (Vec<&str>, Vec<&str>) = parts.concat().into_iter().unzip();
     (filled(&rows.join("\n")) + "\n", filled(&lines.join("\n")) + "\n")
@@ -172,6 +193,8 @@ fn filled(text: &str) -> String {
         ("$masks", MASKS),
         ("$leaf", LEAF),
         ("$small", LEAF_FORM),
+        ("$even", EVEN),
+        ("$odd", ODD),
         ("$tally", TALLY),
         ("$nobody", NOBODY),
         ("$all", &all_but_the_last()),

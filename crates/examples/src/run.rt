@@ -7,6 +7,7 @@ use mark_line::line::line_of;
 use mark_line::show::show_line;
 use opening::read;
 use plain_walk::walk::walk;
+use practice_sheets::practice::practice;
 use row_answers::answers::say_label;
 use row_answers::answers::say_length;
 use row_answers::answers::say_marking;
@@ -31,6 +32,7 @@ use rows::names::LABEL;
 use rows::names::LINE;
 use rows::names::MAKE;
 use rows::names::MARK;
+use rows::names::PRACTICE;
 use rows::names::RULE;
 use rows::names::RULES;
 use rows::names::SIZE;
@@ -75,7 +77,7 @@ fn room_of(call: usize, n: [usize; 9]) -> usize {
     match call {
         MAKE | CERTIFY => n[3],
         MARK => n[4],
-        UNFOLD | WALK | WRAP => n[5],
+        UNFOLD | WALK | WRAP | PRACTICE => n[5],
         _ => 0,
     }
 }
@@ -95,7 +97,7 @@ fn name_of_bytes(call: usize) -> usize {
         MAKE | MARK | CERTIFY => words::FORM,
         UNFOLD => words::TREE,
         WALK => words::MASKS,
-        WRAP => words::SHEET,
+        WRAP | PRACTICE => words::SHEET,
         _ => words::NOTHING,
     }
 }
@@ -107,6 +109,11 @@ fn name_of_numbers(call: usize) -> usize {
         SIZE | LABEL | UNFOLD => words::COUNTS,
         _ => words::NOTHING,
     }
+}
+
+// The first x of a practice sheet, the largest number of 32 bits where the number is larger.
+fn first_of(number: usize) -> u32 {
+    within(number, u32::MAX as usize) as u32
 }
 
 // Makes a call on its fields and what it is lent, and prints its answer.
@@ -131,6 +138,7 @@ fn answer(
         UNFOLD => say_length(unfold(a, b, numbers, bytes)),
         WALK => say_mask(walk(a, b, c, bytes)),
         WRAP => say_length(wrap(a, b, c, bytes)),
+        PRACTICE => say_length(practice(first_of(n[3]), n[4], a, bytes)),
         _ => say_step(step(call, tally_of(a), n[3])),
     }
 }

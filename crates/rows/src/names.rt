@@ -30,13 +30,15 @@ pub const WALK: usize = 0x7761_6C6B;
 
 pub const WRAP: usize = 0x7772_6170;
 
+pub const PRACTICE: usize = 0x7072_6163_7469_6365;
+
 // What is no call.
 pub const NONE: usize = 0;
 
 // The first field of a row that is no byte string. The call is field 1.
 pub fn first_number(call: usize) -> usize {
     match call {
-        LINE | MAKE | CERTIFY | ACCEPT | DECLINE | TURN_AWAY => 3,
+        LINE | MAKE | CERTIFY | ACCEPT | DECLINE | TURN_AWAY | PRACTICE => 3,
         MARK | RULE | RULES | SIZE | LABEL | UNFOLD => 4,
         EVALUATE | WALK | WRAP => 5,
         _ => 2,
@@ -49,7 +51,7 @@ pub fn fields_of(call: usize) -> usize {
         LINE => 3,
         MAKE | RULES | ACCEPT | DECLINE | TURN_AWAY => 4,
         RULE | SIZE => 5,
-        EVALUATE | LABEL | UNFOLD | WALK | WRAP => 6,
+        EVALUATE | LABEL | UNFOLD | WALK | WRAP | PRACTICE => 6,
         MARK => 7,
         CERTIFY => 8,
         _ => 0,

@@ -40,7 +40,7 @@ fn new_row() -> Row {
 }
 
 // The value of a hexadecimal digit, 16 for any other byte.
-fn digit_of(byte: u8) -> u8 {
+pub fn digit_of(byte: u8) -> u8 {
     if byte < b'0' {
         return 16;
     }
@@ -57,7 +57,7 @@ fn digit_of(byte: u8) -> u8 {
 }
 
 // A number with a digit behind it, the largest number where that is too large.
-fn with_digit(number: usize, digit: u8) -> usize {
+pub fn with_digit(number: usize, digit: u8) -> usize {
     if usize::MAX / 10 < number {
         return usize::MAX;
     }
