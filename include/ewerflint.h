@@ -28,7 +28,7 @@
 extern "C" {
 #endif
 
-/* The refusals of documents 01 and 02, by number. */
+/* The refusals of documents 01 and 02, by number. 12 is retired and never given. */
 enum ewf_refusal {
     EWF_NOT_REFUSED = 0,
     EWF_SHEET_LENGTH = 1,      /* a sheet under 12 or over 1,832 bytes */
@@ -41,8 +41,7 @@ enum ewf_refusal {
     EWF_RULE_RANK = 8,         /* a rule's rank over 4 */
     EWF_NODE_NAME = 9,         /* a node names nothing */
     EWF_RIGHT_SIDE = 10,       /* the nodes of a rule are not one whole tree */
-    EWF_PARAMETER = 11,        /* a parameter does not occur exactly once */
-    EWF_LONE_PARAMETER = 12,   /* a right side is a lone parameter */
+    EWF_PARAMETER = 11,        /* a parameter occurs a second time */
     EWF_START_RANK = 13,       /* the last rule has parameters */
     EWF_AUTOMATON_LENGTH = 14, /* an automaton under 2 bytes, a cut transition, or over 255 of them */
     EWF_STATES = 15,           /* the states or the final states are out of range */

@@ -1,4 +1,4 @@
-//! A comparison of the engine with an implementation written from document 01 and of
+//! A comparison of the engine with an implementation written from document 01 and of
 //! document 02 alone.
 
 #![deny(unsafe_code)]

@@ -1,4 +1,5 @@
-//! Refusals: the numbers of document 01's table, and 26 and 27 of document 02.
+//! Refusals: the numbers of document 01's table, and 26 and 27 of document 02. R-3 of document 02
+//! has retired 12.
 
 /// A refusal's number.
 #[derive(Clone, Copy, Debug, PartialEq, Eq)]
@@ -9,6 +10,9 @@ pub type Answer<T> = Result<T, Refusal>;
 
 /// The highest number.
 pub const LAST: u8 = 27;
+
+/// The number that is given no more.
+pub const RETIRED: u8 = 12;
 
 /// Puts an answer through a pointer as the C interface does: a refusal leaves the place alone.
 pub fn settle<T>(answer: Answer<T>, place: &mut T) -> u8 {

@@ -31,7 +31,7 @@ pub fn subjects() -> Vec<Subject> {
 fn largest() -> Vec<u8> {
     let full = |case: u64| {
         let mut random = Random::of_case(1, case);
-        let plan = sheets::plan(&mut random);
+        let plan = sheets::exact(&mut random);
         let full = plan.node_count() == 128 && plan.rules.len() >= 16;
         full.then(|| widest(&mut random, plan))
     };

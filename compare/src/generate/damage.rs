@@ -3,13 +3,18 @@
 use super::alphabets;
 use super::automata;
 use super::bytes;
+use super::dropped;
 use super::plan::{Plan, RulePlan};
 use super::random::Random;
 use crate::reference::calls::joined;
 
-/// A sheet with one or more things wrong, as a rule: which refusal comes first then matters.
+/// A sheet with one or more things wrong, as a rule: which refusal comes first then matters. Often
+/// only what is dropped is damaged.
 pub fn damaged(random: &mut Random, plan: &Plan) -> Vec<u8> {
     let mut plan = plan.clone();
+    if random.one_in(3) && dropped::damage(random, &mut plan) {
+        return plan.sheet();
+    }
     for _ in 0..random.between(0, 3) {
         damage_part(random, &mut plan);
     }
@@ -69,7 +74,7 @@ fn rules_cut(random: &mut Random, plan: &Plan) -> Vec<u8> {
 }
 
 fn damage_part(random: &mut Random, plan: &mut Plan) {
-    match random.below(8) {
+    match random.below(10) {
         0 if !plan.alphabet.is_empty() => {
             plan.alphabet = alphabets::damaged(random, &plan.alphabet);
         }
@@ -78,6 +83,10 @@ fn damage_part(random: &mut Random, plan: &mut Plan) {
         }
         2 => too_many(random, plan),
         3 => plan.rules.truncate(random.between(1, plan.rules.len())),
+        4 => repeat_parameter_anywhere(random, plan),
+        5 => {
+            dropped::damage(random, plan);
+        }
         _ => {
             let number = random.below(plan.rules.len());
             damage_rule(random, &mut plan.rules[number]);
@@ -103,12 +112,43 @@ fn too_many(random: &mut Random, plan: &mut Plan) {
     }
 }
 
+fn repeat_parameter_anywhere(random: &mut Random, plan: &mut Plan) {
+    let nodes_of = |number: usize| (0..plan.rules[number].nodes.len()).map(move |at| (number, at));
+    let places: Vec<(usize, usize)> = (0..plan.rules.len()).flat_map(nodes_of).collect();
+    repeat_parameter(random, plan, &places);
+}
+
+/// Puts a parameter that a rule has over one of these leaves of the rule, if there is one.
+pub fn repeat_parameter(random: &mut Random, plan: &mut Plan, places: &[(usize, usize)]) {
+    let others = |&(number, place): &(usize, usize)| {
+        let nodes = plan.rules[number].nodes.iter().enumerate();
+        let is_other = move |(at, node): &(usize, &u8)| *at != place && **node >= 0x80;
+        nodes.filter(is_other).map(|(_, node)| *node).collect::<Vec<u8>>()
+    };
+    let is_leaf = |&(number, place): &(usize, usize)| {
+        let node = plan.rules[number].nodes[place];
+        let rank_0 = |rule: &RulePlan| rule.rank == 0;
+        match node {
+            0x00..=0x1F => plan.alphabet.get(usize::from(node)) == Some(&0),
+            0x40..=0x7F => plan.rules.get(usize::from(node - 0x40)).is_some_and(rank_0),
+            _ => true,
+        }
+    };
+    let fits = |place: &&(usize, usize)| is_leaf(place) && !others(place).is_empty();
+    let fitting: Vec<&(usize, usize)> = places.iter().filter(fits).collect();
+    if !fitting.is_empty() {
+        let &(number, place) = *random.pick(&fitting);
+        let parameter = *random.pick(&others(&(number, place)));
+        plan.rules[number].nodes[place] = parameter;
+    }
+}
+
 fn damage_rule(random: &mut Random, rule: &mut RulePlan) {
     let place = random.below(rule.nodes.len().max(1));
     match random.below(8) {
         0 => rule.rank = *random.pick(&[5, 6, 0xFF]),
         1 => rule.rank = random.between(0, 4) as u8,
-        2 => *rule = RulePlan { rank: 1, nodes: vec![0x80] },
+        2 => *rule = lone_parameter(random),
         3 => rule.nodes.clear(),
         4 => rule.nodes.push(*random.pick(&[0, 0x40, 0x80])),
         5 if !rule.nodes.is_empty() => {
@@ -120,4 +160,10 @@ fn damage_rule(random: &mut Random, rule: &mut RulePlan) {
         }
         _ => {}
     }
+}
+
+/// A lone parameter, often of another rank than the rule has that it stands for.
+fn lone_parameter(random: &mut Random) -> RulePlan {
+    let rank = random.between(1, 4);
+    RulePlan { rank: rank as u8, nodes: vec![0x80 + random.below(rank) as u8] }
 }

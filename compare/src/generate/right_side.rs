@@ -57,11 +57,19 @@ impl<'a> Grower<'a> {
         Grower { random, names, most, nodes: Vec::new() }
     }
 
-    /// A lawful right side of the rank, unless the one tried came out too large.
+    /// A lawful right side of the rank with each parameter once and none alone, unless the one
+    /// tried came out too large.
     pub fn right_side(mut self, rank: usize) -> Option<RulePlan> {
         let mut parameters: Vec<u8> = (0..rank as u8).map(|number| 0x80 + number).collect();
         self.random.shuffle(&mut parameters);
         self.grow(&parameters, self.most, false)?;
+        Some(RulePlan { rank: rank as u8, nodes: self.nodes })
+    }
+
+    /// A lawful right side of the rank with these parameters and no others, unless the one tried
+    /// came out too large. It may be one of them alone.
+    pub fn wide_right_side(mut self, rank: usize, parameters: &[u8]) -> Option<RulePlan> {
+        self.grow(parameters, self.most, true)?;
         Some(RulePlan { rank: rank as u8, nodes: self.nodes })
     }
 

@@ -5,7 +5,7 @@ use super::plan::{Plan, RulePlan};
 use super::random::Random;
 
 /// a, h, f, g and k of ranks 0 to 4.
-const ALPHABET: [u8; 5] = [0, 1, 2, 3, 4];
+pub const ALPHABET: [u8; 5] = [0, 1, 2, 3, 4];
 
 pub fn shape(random: &mut Random) -> Plan {
     let (rules, states) = match random.below(6) {
@@ -24,12 +24,12 @@ pub fn shape(random: &mut Random) -> Plan {
     Plan { alphabet, rules, automaton }
 }
 
-fn rule(rank: u8, nodes: &[u8]) -> RulePlan {
+pub fn rule(rank: u8, nodes: &[u8]) -> RulePlan {
     RulePlan { rank, nodes: nodes.to_vec() }
 }
 
 /// The call of the last of these rules.
-fn last(rules: &[RulePlan]) -> u8 {
+pub fn last(rules: &[RulePlan]) -> u8 {
     0x40 + rules.len() as u8 - 1
 }
 

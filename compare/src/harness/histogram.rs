@@ -1,6 +1,6 @@
 //! How often each code was given.
 
-use crate::refusal::LAST;
+use crate::refusal::{LAST, RETIRED};
 use std::fmt;
 
 pub struct Histogram {
@@ -12,13 +12,15 @@ impl Histogram {
         Histogram { times: [0; LAST as usize + 1] }
     }
 
+    /// Counts a code that was expected; an engine that gives another one differs.
     pub fn add(&mut self, code: u8) {
+        assert_ne!(code, RETIRED, "the reference gives a refusal that is retired");
         self.times[usize::from(code)] += 1;
     }
 
-    /// The refusals that were never given.
+    /// The refusals that were never given, though they may be.
     pub fn missing(&self) -> Vec<u8> {
-        (1..=LAST).filter(|&code| self.times[usize::from(code)] == 0).collect()
+        refusals().filter(|&code| self.times[usize::from(code)] == 0).collect()
     }
 }
 
@@ -31,9 +33,14 @@ impl Default for Histogram {
 impl fmt::Display for Histogram {
     fn fmt(&self, to: &mut fmt::Formatter) -> fmt::Result {
         writeln!(to, "answered {}", self.times[0])?;
-        for (code, times) in self.times.iter().enumerate().skip(1) {
-            writeln!(to, "refused {code} {times}")?;
+        for code in refusals() {
+            writeln!(to, "refused {code} {}", self.times[usize::from(code)])?;
         }
         Ok(())
     }
+}
+
+/// The refusals that are not retired.
+fn refusals() -> impl Iterator<Item = u8> {
+    (1..=LAST).filter(|&code| code != RETIRED)
 }

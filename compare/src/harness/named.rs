@@ -14,7 +14,7 @@ const W: &str = "K1 W";
 
 /// The rows that have the other sheets of document 01: those for the desk and one for each
 /// refusal.
-const SHEETS: [&str; 25] = [
+const SHEETS: [&str; 24] = [
     "K2 b33=02",
     "K4 only rule 00 01 00",
     "K5 W without transitions",
@@ -35,7 +35,6 @@ const SHEETS: [&str; 25] = [
     "9 b22=03",
     "10 b28=00",
     "11 b25=81",
-    "12 rule 01 01 80",
     "13 W without rule 2",
     "14 W less its last byte",
     "15 b32=09",

@@ -1,5 +1,7 @@
 //! Form making by skeletons: source document 000, section 6, in one pass.
 
+use super::alphabet::Alphabet;
+use super::cleaning::{LONGEST_BODY, clean};
 use super::form::{Form, FormRule};
 use super::sheet::{Rule, Sheet};
 
@@ -19,7 +21,8 @@ enum Cell {
 }
 
 struct Maker<'s> {
-    sheet: &'s Sheet<'s>,
+    alphabet: Alphabet<'s>,
+    sheet_rules: &'s [Rule<'s>],
     cells: Vec<Cell>,
     skeletons: Vec<Id>,
     rules: Vec<FormRule>,
@@ -27,8 +30,24 @@ struct Maker<'s> {
 
 /// A form that derives the sheet's tree.
 pub fn form(sheet: &Sheet) -> Form {
-    let mut maker = Maker { sheet, cells: Vec::new(), skeletons: Vec::new(), rules: Vec::new() };
-    for rule in &sheet.rules {
+    if sheet.is_clean {
+        return form_of(sheet.alphabet, &sheet.rules);
+    }
+    let mut body = [0; LONGEST_BODY];
+    form_of(sheet.alphabet, &clean(sheet.alphabet, &sheet.rules, &mut body))
+}
+
+/// The form of rules that need no cleaning, unless for a rule that is one parameter and never
+/// called.
+fn form_of(alphabet: Alphabet, sheet_rules: &[Rule]) -> Form {
+    let mut maker = Maker {
+        alphabet,
+        sheet_rules,
+        cells: Vec::new(),
+        skeletons: Vec::new(),
+        rules: Vec::new(),
+    };
+    for rule in sheet_rules {
         let skeleton = maker.right_side(rule);
         maker.skeletons.push(skeleton);
     }
@@ -45,13 +64,13 @@ impl Maker<'_> {
         for &node in rule.nodes.iter().rev() {
             let id = match node {
                 0x00..=0x1F => {
-                    let rank = self.sheet.alphabet.rank(node).unwrap_or(0);
+                    let rank = self.alphabet.rank(node).unwrap_or(0);
                     let children = take(&mut stack, rank);
                     self.grow(node, children, rank)
                 }
                 0x40..=0x7F => {
                     let called = usize::from(node - 0x40);
-                    let rank = usize::from(self.sheet.rules[called].rank);
+                    let rank = usize::from(self.sheet_rules[called].rank);
                     let arguments = take(&mut stack, rank);
                     self.fill(self.skeletons[called], &arguments)
                 }
@@ -72,7 +91,7 @@ impl Maker<'_> {
                 self.put(context, filled)
             }
             Cell::Branch(terminal, mut children) => {
-                let rank = self.sheet.alphabet.rank(terminal).unwrap_or(0);
+                let rank = self.alphabet.rank(terminal).unwrap_or(0);
                 for child in &mut children[..rank] {
                     *child = self.fill(*child, arguments);
                 }

@@ -4,6 +4,7 @@
 mod alphabet;
 mod automaton;
 mod calls;
+mod cleaning;
 mod counts;
 mod evaluation;
 mod form;

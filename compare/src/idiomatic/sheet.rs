@@ -15,8 +15,10 @@ pub struct Sheet<'a> {
     pub alphabet: Alphabet<'a>,
     pub rules: Vec<Rule<'a>>,
     pub automaton: Automaton,
-    /// G: all right-side nodes.
+    /// G: all right-side nodes as written.
     pub nodes: usize,
+    /// Whether every parameter occurs and no right side is a parameter alone.
+    pub is_clean: bool,
 }
 
 impl<'a> Sheet<'a> {
@@ -27,14 +29,15 @@ impl<'a> Sheet<'a> {
         let (alphabet, rules, automaton) = bodies(bytes).ok_or(Refusal(2))?;
         let alphabet = Alphabet::read(alphabet)?;
         let (rules, nodes) = split(rules)?;
+        let mut is_clean = true;
         for (number, rule) in rules.iter().enumerate() {
-            check(alphabet, &rules[..number], rule)?;
+            is_clean &= check(alphabet, &rules[..number], rule)?;
         }
         if rules.last().is_none_or(|start| start.rank != 0) {
             return Err(Refusal(13));
         }
         let automaton = Automaton::read(alphabet, automaton)?;
-        Ok(Sheet { alphabet, rules, automaton, nodes })
+        Ok(Sheet { alphabet, rules, automaton, nodes, is_clean })
     }
 }
 
@@ -52,13 +55,8 @@ fn bodies(bytes: &[u8]) -> Option<(&[u8], &[u8], &[u8])> {
 }
 
 /// The rules and the number of their nodes: refusals 5 to 7.
-fn split(mut rest: &[u8]) -> Answer<(Vec<Rule<'_>>, usize)> {
-    let mut rules = Vec::new();
-    while let [rank, count, behind @ ..] = rest {
-        let (nodes, next) = behind.split_at_checked(usize::from(*count)).ok_or(Refusal(5))?;
-        rules.push(Rule { rank: *rank, nodes });
-        rest = next;
-    }
+fn split(body: &[u8]) -> Answer<(Vec<Rule<'_>>, usize)> {
+    let (rules, rest) = rules(body);
     if rules.is_empty() || !rest.is_empty() {
         return Err(Refusal(5));
     }
@@ -70,8 +68,21 @@ fn split(mut rest: &[u8]) -> Answer<(Vec<Rule<'_>>, usize)> {
     }
 }
 
-/// Refusals 8 to 12.
-fn check(alphabet: Alphabet, lower: &[Rule], rule: &Rule) -> Answer<()> {
+/// The whole rules of a body, and what is left of it.
+pub fn rules(body: &[u8]) -> (Vec<Rule<'_>>, &[u8]) {
+    let mut rules = Vec::new();
+    let mut rest = body;
+    while let [rank, count, behind @ ..] = rest
+        && let Some((nodes, next)) = behind.split_at_checked(usize::from(*count))
+    {
+        rules.push(Rule { rank: *rank, nodes });
+        rest = next;
+    }
+    (rules, rest)
+}
+
+/// Refusals 8 to 11; the answer is whether every parameter occurs and not alone.
+fn check(alphabet: Alphabet, lower: &[Rule], rule: &Rule) -> Answer<bool> {
     if rule.rank > 4 {
         return Err(Refusal(8));
     }
@@ -90,11 +101,9 @@ fn check(alphabet: Alphabet, lower: &[Rule], rule: &Rule) -> Answer<()> {
     for node in rule.nodes.iter().filter(|&&node| node >= 0x80) {
         parameters[usize::from(node - 0x80)] += 1;
     }
-    if parameters[..usize::from(rule.rank)].iter().any(|&times| times != 1) {
+    if parameters.iter().any(|&times| times > 1) {
         return Err(Refusal(11));
     }
-    if matches!(rule.nodes, [0x80..=0x83]) {
-        return Err(Refusal(12));
-    }
-    Ok(())
+    let all_occur = parameters[..usize::from(rule.rank)].iter().all(|&times| times == 1);
+    Ok(all_occur && !matches!(rule.nodes, [0x80..=0x83]))
 }

@@ -6,25 +6,63 @@ use super::tree::Tree;
 
 /// What the start becomes.
 pub fn tree(rules: &[Rule]) -> Tree {
-    let start = rules.last().expect("a sheet has a rule");
-    value(rules, &start.right, &mut [])
+    let mut derivation = Derivation { rules, values: vec![None; rules.len()] };
+    finished(derivation.of_rule(rules.len() - 1))
 }
 
-/// The term with calls replaced and argument i for parameter i. A parameter occurs once, so its
-/// argument can be moved to its place.
-fn value(rules: &[Rule], term: &Term, arguments: &mut [Option<Tree>]) -> Tree {
+/// What rules become: terms of terminals and parameters. A rule is worked out when a call that
+/// stands in the tree first wants it, since a rule that only a dropped argument calls may become
+/// enormous; and once, since a small tree may take very many calls.
+struct Derivation<'s> {
+    rules: &'s [Rule],
+    values: Vec<Option<Term>>,
+}
+
+impl Derivation<'_> {
+    fn of_rule(&mut self, rule: usize) -> Term {
+        if let Some(value) = &self.values[rule] {
+            return value.clone();
+        }
+        let rules = self.rules;
+        let value = self.value(&rules[rule].right);
+        self.values[rule] = Some(value.clone());
+        value
+    }
+
+    /// The term with every call replaced.
+    fn value(&mut self, term: &Term) -> Term {
+        match term {
+            Term::Parameter(parameter) => Term::Parameter(*parameter),
+            Term::Terminal(terminal, children) => {
+                let children = children.iter().map(|child| self.value(child)).collect();
+                Term::Terminal(*terminal, children)
+            }
+            Term::Call(rule, arguments) => {
+                let called = self.of_rule(*rule);
+                self.filled(called, arguments)
+            }
+        }
+    }
+
+    /// What a rule has become, with argument i for parameter i. An argument that no parameter
+    /// stands for is passed over.
+    fn filled(&mut self, called: Term, arguments: &[Term]) -> Term {
+        match called {
+            Term::Parameter(parameter) => self.value(&arguments[parameter]),
+            Term::Terminal(terminal, children) => {
+                let fill = |child| self.filled(child, arguments);
+                Term::Terminal(terminal, children.into_iter().map(fill).collect())
+            }
+            Term::Call(..) => unreachable!("every call has been replaced"),
+        }
+    }
+}
+
+fn finished(term: Term) -> Tree {
     match term {
-        Term::Parameter(parameter) => {
-            arguments[*parameter].take().expect("a parameter occurs once")
-        }
         Term::Terminal(terminal, children) => {
-            let children = children.iter().map(|child| value(rules, child, arguments)).collect();
-            Tree { terminal: *terminal, children }
+            Tree { terminal, children: children.into_iter().map(finished).collect() }
         }
-        Term::Call(rule, children) => {
-            let mut given: Vec<Option<Tree>> =
-                children.iter().map(|child| Some(value(rules, child, arguments))).collect();
-            value(rules, &rules[*rule].right, &mut given)
-        }
+        _ => unreachable!("the start has become terminals only"),
     }
 }

@@ -1,4 +1,4 @@
-//! Document 01, with of document 02, in the plainest way: everything is read into trees
+//! Document 01, with of document 02, in the plainest way: everything is read into trees
 //! and lists, and each meaning is worked out as the documents word it. Speed is no aim here.
 
 pub mod alphabet;
@@ -15,6 +15,7 @@ pub mod label;
 pub mod making;
 pub mod marking;
 pub mod practice;
+pub mod presence;
 pub mod profile;
 pub mod program;
 pub mod relations;

@@ -1,5 +1,6 @@
 //! What rules derive, in outline: stretches of terminals and the parameters between them. It gives
-//! the size and the labels of the sheet's tree without the form, however large the tree is.
+//! the size and the labels of the sheet's tree without the form, however large the tree is. What
+//! stands in a dropped argument is in no outline.
 
 use super::fingerprint::Fingerprint;
 use super::rules::Rule;

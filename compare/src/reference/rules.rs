@@ -9,7 +9,7 @@ pub struct Rule {
     pub right: Term,
 }
 
-/// Refusals 5 to 13.
+/// Refusals 5 to 13, of which 12 is retired.
 pub fn read(alphabet: &Alphabet, body: &[u8]) -> Answer<Vec<Rule>> {
     let written = split(body).ok_or(Refusal(5))?;
     if written.len() > 64 {
@@ -41,7 +41,8 @@ fn split(body: &[u8]) -> Option<Vec<(u8, &[u8])>> {
     (!written.is_empty()).then_some(written)
 }
 
-/// Refusals 8 to 12 for the rule after the lower ones.
+/// Refusals 8 to 11 for the rule after the lower ones. Each looks at the right side as it is
+/// written, dropped arguments included.
 fn rule(alphabet: &Alphabet, lower: &[Rule], rank: u8, nodes: &[u8]) -> Answer<Rule> {
     if rank > 4 {
         return Err(Refusal(8));
@@ -57,11 +58,8 @@ fn rule(alphabet: &Alphabet, lower: &[Rule], rank: u8, nodes: &[u8]) -> Answer<R
     if !rest.is_empty() {
         return Err(Refusal(10));
     }
-    if (0..rank).any(|parameter| occurrences(&right, parameter) != 1) {
+    if (0..rank).any(|parameter| occurrences(&right, parameter) > 1) {
         return Err(Refusal(11));
-    }
-    if matches!(right, Term::Parameter(_)) {
-        return Err(Refusal(12));
     }
     Ok(Rule { rank, right })
 }
@@ -78,6 +76,5 @@ fn name(alphabet: &Alphabet, lower: &[Rule], rank: usize, node: u8) -> Option<(S
 }
 
 fn occurrences(right: &Term, parameter: usize) -> usize {
-    let is_it = |node: &&Term| matches!(node, Term::Parameter(found) if *found == parameter);
-    right.nodes().into_iter().filter(is_it).count()
+    right.nodes().into_iter().filter(|node| node.is_parameter(parameter)).count()
 }

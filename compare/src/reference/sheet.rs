@@ -31,13 +31,13 @@ impl Sheet {
         })
     }
 
-    /// G: all right-side nodes, parameters included.
+    /// G: all right-side nodes as written, parameters and dropped arguments included.
     pub fn node_count(&self) -> usize {
         self.rules.iter().map(|rule| rule.right.nodes().len()).sum()
     }
 
-    /// 2 for each terminal node and 4n - 3 for each call of a rule of rank n above 0: no form
-    /// made of the sheet has more rules.
+    /// 2 for each terminal node as written and 4n - 3 for each call of a rule of rank n above 0: no
+    /// form made of the sheet has more rules.
     pub fn rule_bound(&self) -> usize {
         let nodes = self.rules.iter().flat_map(|rule| rule.right.nodes());
         nodes.map(|node| self.node_bound(node)).sum()

@@ -19,6 +19,7 @@ impl Symbol {
     }
 }
 
+#[derive(Clone)]
 pub enum Term {
     Terminal(u8, Vec<Term>),
     Call(usize, Vec<Term>),
@@ -43,6 +44,10 @@ impl Term {
             Term::Terminal(_, children) | Term::Call(_, children) => children,
             Term::Parameter(_) => &[],
         }
+    }
+
+    pub fn is_parameter(&self, wanted: usize) -> bool {
+        matches!(self, Term::Parameter(parameter) if *parameter == wanted)
     }
 
     /// All nodes of the term, itself first.

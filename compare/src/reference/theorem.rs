@@ -1,7 +1,9 @@
 //! The mask straight from the grammar: source document 003, Theorem 1. For each rule and each
-//! choice of states at its parameters, the states in which a run may end at its root.
+//! choice of states at its parameters, the states in which a run may end at its root. A parameter
+//! that does not stand in what the rule derives is free: no run is asked of its argument.
 
 use super::automaton::{Automaton, has};
+use super::presence::Presence;
 use super::rules::Rule;
 use super::term::Term;
 
@@ -9,39 +11,54 @@ use super::term::Term;
 /// first parameter's state as the lowest digit.
 type Table = Vec<u8>;
 
+/// State 0 alone. It stands for all states where the state does not matter.
+const FREE: u8 = 1;
+
 /// The mask of the sheet's tree.
 pub fn mask(automaton: &Automaton, rules: &[Rule]) -> u8 {
-    let mut tables: Vec<Table> = Vec::new();
+    let mut method = Method { automaton, presence: Presence::of(rules), tables: Vec::new() };
     for rule in rules {
-        let table = table(automaton, &tables, rule);
-        tables.push(table);
+        let table = method.table(rule);
+        method.tables.push(table);
     }
-    tables.last().expect("a sheet has a rule")[0]
+    method.tables.last().expect("a sheet has a rule")[0]
 }
 
-fn table(automaton: &Automaton, tables: &[Table], rule: &Rule) -> Table {
-    let states = usize::from(automaton.states);
-    let tuples = states.pow(rule.rank as u32);
-    let entry = |tuple: usize| {
-        let digit = |place: usize| (tuple / states.pow(place as u32) % states) as u8;
-        let entered: Vec<u8> = (0..rule.rank).map(digit).collect();
-        root_states(automaton, tables, &rule.right, &entered)
-    };
-    (0..tuples).map(entry).collect()
+/// The tables of the rules so far.
+struct Method<'s> {
+    automaton: &'s Automaton,
+    presence: Presence,
+    tables: Vec<Table>,
 }
 
-/// The states a run may give the term's root when it enters the parameters in these states.
-fn root_states(automaton: &Automaton, tables: &[Table], term: &Term, entered: &[u8]) -> u8 {
-    let of_child = |child: &Term| root_states(automaton, tables, child, entered);
-    match term {
-        Term::Parameter(parameter) => 1 << entered[*parameter],
-        Term::Terminal(terminal, children) => {
-            let sets: Vec<u8> = children.iter().map(of_child).collect();
-            automaton.step(*terminal, &sets)
-        }
-        Term::Call(rule, children) => {
-            let sets: Vec<u8> = children.iter().map(of_child).collect();
-            union(&tables[*rule], usize::from(automaton.states), &sets)
+impl Method<'_> {
+    fn table(&self, rule: &Rule) -> Table {
+        let states = usize::from(self.automaton.states);
+        let tuples = states.pow(rule.rank as u32);
+        let entry = |tuple: usize| {
+            let digit = |place: usize| (tuple / states.pow(place as u32) % states) as u8;
+            let entered: Vec<u8> = (0..rule.rank).map(digit).collect();
+            self.root_states(&rule.right, &entered)
+        };
+        (0..tuples).map(entry).collect()
+    }
+
+    /// The states a run may give the term's root when it enters the parameters in these states.
+    fn root_states(&self, term: &Term, entered: &[u8]) -> u8 {
+        let of_child = |child: &Term| self.root_states(child, entered);
+        match term {
+            Term::Parameter(parameter) => 1 << entered[*parameter],
+            Term::Terminal(terminal, children) => {
+                let sets: Vec<u8> = children.iter().map(of_child).collect();
+                self.automaton.step(*terminal, &sets)
+            }
+            Term::Call(rule, arguments) => {
+                let of_argument = |(place, argument): (usize, &Term)| {
+                    if self.presence.keeps(*rule, place) { of_child(argument) } else { FREE }
+                };
+                let sets: Vec<u8> = arguments.iter().enumerate().map(of_argument).collect();
+                union(&self.tables[*rule], usize::from(self.automaton.states), &sets)
+            }
         }
     }
 }

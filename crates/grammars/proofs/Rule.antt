@@ -5,28 +5,28 @@ use mathlib.Core.List.{List, [], _∷_}
 use Prim.Native.Nat.{ℕ, zero, suc, _-_, _+_, _<_, _≤_}
 use native.Mathlib.Omega.{arith}
 use borrow.Author.Tests.{ltb-true, lt-ltb, le-ltb}
-use lib.Dec.{ltb, eqb}
+use lib.Dec.{leb, ltb}
 use lib.ListN.{length, getD, drop, length-map}
 use lib.Seq.{getD-set-same, getD-set-other, drop-length}
 use Rattle.terms.specs.Test.{all, every}
 use Rattle.terms.specs.Refusal.{first, _when_}
 use Rattle.terms.specs.Tree.{exactly, wholes, taking}
 use Rattle.terms.specs.Grammar.{Name, terminal, nonterminal, parameter, nothing, name, Rule, ruleAt, ruleRank, nameRank, rankIn, allowed, allAllowed, isParameter, sumOver}
-use Rattle.terms.specs.Check.{highestRank, isOne, lone, ruleRefusal}
+use Rattle.terms.specs.Check.{highestRank, isOne, ruleRefusal}
 use Rattle.terms.proofs.Test.{both-0, both-1, is-true, of-true}
 use Rattle.nodes.specs.Nodes.{ruledBy, counting}
 use Rattle.nodes.specs.declared.wholes.Wholes.{Wholes}
 use Rattle.grammars.specs.Rules.{seenFrom}
 use Rattle.terms.proofs.Scan.{drop-back, every-cong, all-part}
 
--- the rows 8 to 12 of the table, by their tests
-abbrev pub rows : Bool → Bool → Bool → Bool → Bool → ℕ
-rows high unknown broken lost bare = first (8 when high ∷ 9 when unknown ∷ 10 when broken ∷ 11 when lost ∷ 12 when bare ∷ [])
+-- the rows 8 to 11 of the table, by their tests
+abbrev pub rows : Bool → Bool → Bool → Bool → ℕ
+rows high unknown broken twice = first (8 when high ∷ 9 when unknown ∷ 10 when broken ∷ 11 when twice ∷ [])
 
 -- the rows of a rule, where the list of rules gives the ranks
 abbrev pub rowsOf : List ℕ → List Rule → ℕ → Rule → ℕ
 rowsOf alphabet rules i rule = rows (ltb highestRank (rule .rank)) (not (allAllowed alphabet i (rule .rank) (rule .nodes)))
-    (not (isOne (wholes (rankIn alphabet rules) (rule .nodes)))) (not (every (rule .rank) (λ j. eqb (sumOver (isParameter j) (rule .nodes)) 1))) (lone (rule .nodes))
+    (not (isOne (wholes (rankIn alphabet rules) (rule .nodes)))) (not (every (rule .rank) (λ j. leb (sumOver (isParameter j) (rule .nodes)) 1)))
 
 -- two lists of rules that have the same rule i, and lower rules of the same ranks
 module _ (alphabet : List ℕ) (rules others : List Rule) (i : ℕ) (lower : (k : ℕ) → k < i → ruleRank rules k ≡ ruleRank others k) where
@@ -122,11 +122,11 @@ module _ (alphabet ranks : List ℕ) (i rank : ℕ) (nodes : List ℕ) (room : i
           counted = λ j. rw (d, ← e, ← s .counted j) (counted j);
         }
 
-  -- where all nodes are scanned, what was gathered decides the rows 10 to 12
+  -- where all nodes are scanned, what was gathered decides the rows 10 and 11
   pub all-scanned : rank ≤ highestRank → (behind : Wholes) (counts : List ℕ) (left : ℕ) → left ≤ 0 → Scanned alphabet ranks i rank nodes behind counts left
       → ruleRefusal alphabet (seenFrom ranks i rank nodes) i
-      ≡ rows false false (not (isOne (counting behind))) (not (every rank (λ j. eqb (getD counts j 0) 1))) (lone nodes)
+      ≡ rows false false (not (isOne (counting behind))) (not (every rank (λ j. leb (getD counts j 0) 1)))
   all-scanned low behind counts zero h s =
-      let c = every-cong rank (λ j. eqb (sumOver (isParameter j) nodes) 1) (λ j. eqb (getD counts j 0) 1) (λ j. ap (λ n. eqb n 1) (sym (s .counted j))) in
+      let c = every-cong rank (λ j. leb (sumOver (isParameter j) nodes) 1) (λ j. leb (getD counts j 0) 1) (λ j. ap (λ n. leb n 1) (sym (s .counted j))) in
       refusal-rows alphabet ranks i rank nodes room ∙ rw (le-ltb highestRank rank low, s .fine, ← s .trees, c)
   all-scanned low behind counts (suc left) h s = absurd (omega arith)

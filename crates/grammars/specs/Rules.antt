@@ -13,7 +13,7 @@ use Rattle.nodes.specs.Nodes.{ruledBy}
 use Rattle.grammars.specs.declared.rules.Rules.{Rules}
 use Rattle.grammars.specs.declared.rules.Rules.the-variants.{Refused, Read}
 
--- what the check of rule i sees of the rules: rule i, and the ranks of the others (01 Refusals, 8 to 12)
+-- what the check of rule i sees of the rules: rule i, and the ranks of the others (01 Refusals, 8 to 11)
 abbrev pub seenFrom : List ℕ → ℕ → ℕ → List ℕ → List Rule
 seenFrom ranks i rank nodes = set (ruledBy ranks) i (record { rank = rank; nodes = nodes })
 

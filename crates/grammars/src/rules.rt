@@ -4,11 +4,10 @@ use checks::limits::HIGHEST_RANK;
 use checks::limits::MOST_NODES;
 use checks::limits::MOST_RULES;
 use nodes::name::allowed;
-use nodes::name::is_parameter;
 use nodes::name::name_of;
 use nodes::name::name_rank;
 use nodes::parameters::count_parameter;
-use nodes::parameters::each_once;
+use nodes::parameters::each_at_most_once;
 use nodes::wholes::Wholes;
 use nodes::wholes::is_one;
 use nodes::wholes::taking;
@@ -16,7 +15,7 @@ use terms::Rule;
 ghost use mathlib.Core.Path.{_≡_};
 ghost use Prim.Native.Nat.{_<_, _≤_};
 ghost use lib.ListN.{length};
-ghost use Rattle.terms.specs.Check.{mostRules, lone, ruleRefusal};
+ghost use Rattle.terms.specs.Check.{mostRules, ruleRefusal};
 ghost use Rattle.terms.specs.Sheet.{rulesBody};
 ghost use Rattle.grammars.specs.Rules.{seenFrom, endsReading, rulesReading, eachRefusal};
 
@@ -30,17 +29,7 @@ pub enum Rules {
     Read(Counts),
 }
 
-// Whether the nodes are a lone parameter.
-fn lone(nodes: &[u8]) -> bool
-    ensures { λ r. ⌜ r ≡ lone (now (nodes .entry)) ⌝ }
-{
-    if nodes.len() != 1 {
-        return false;
-    }
-    is_parameter(name_of(nodes[0]))
-}
-
-// The refusal of a rule, 8 to 12, from the ranks of the lower rules; 0 where there is none.
+// The refusal of a rule, 8 to 11, from the ranks of the lower rules; 0 where there is none.
 fn rule_refusal(alphabet: &[u8], ranks: &[u8; MOST_RULES], rule: Rule, rank: u8, nodes: &[u8]) -> u8
     requires { ⌜ (length (now ranks) ≡ mostRules) × (rule .0 < mostRules) × (length (now nodes) < 256) ⌝ }
     ensures { λ r. ⌜ r ≡ ruleRefusal (now (alphabet .entry)) (seenFrom (now (ranks .entry)) (rule .0) rank (now (nodes .entry))) (rule .0) ⌝ }
@@ -63,11 +52,8 @@ fn rule_refusal(alphabet: &[u8], ranks: &[u8; MOST_RULES], rule: Rule, rank: u8,
     if !is_one(behind) {
         return 10;
     }
-    if !each_once(&counts, rank) {
+    if !each_at_most_once(&counts, rank) {
         return 11;
-    }
-    if lone(nodes) {
-        return 12;
     }
     0
 }
@@ -91,7 +77,7 @@ fn count_rules(body: &[u8]) -> Rules
     Rules::Read(Counts { rules, nodes })
 }
 
-// The first refusal of a rule, 8 to 12, from rule 0 on, and that of a start with parameters, 13; 0 where there is none.
+// The first refusal of a rule, 8 to 11, from rule 0 on, and that of a start with parameters, 13; 0 where there is none.
 fn each_refusal(alphabet: &[u8], body: &[u8], rules: usize) -> u8
     requires { ⌜ (rules ≡ length (rulesBody (now body) .rules)) × (0 < rules) × (rules ≤ mostRules) ⌝ }
     ensures { λ r. ⌜ r ≡ eachRefusal (now (alphabet .entry)) (rulesBody (now (body .entry)) .rules) ⌝ }

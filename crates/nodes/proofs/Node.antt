@@ -1,4 +1,4 @@
--- The nodes of a right side: a parameter's count, a lone parameter, what an allowed node has, and how much the nodes can make.
+-- The nodes of a right side: a parameter's count, what an allowed node has, and how much the nodes can make.
 use mathlib.Core.Path.{_≡_, refl, ap}
 use mathlib.Core.Bool.{Bool, true, false, cond}
 use mathlib.Core.List.{List, [], _∷_}
@@ -11,8 +11,8 @@ use lib.ListN.{length, getD, set}
 use lib.Seq.{getD-set-same, getD-set-other}
 use Rattle.terms.specs.Tree.{exactly, lacking, taking, wholes}
 use Rattle.terms.specs.Tree as tree
-use Rattle.terms.specs.Grammar.{Name, terminal, nonterminal, parameter, nothing, name, ruleRank, allowed, isParameter, sumOver}
-use Rattle.terms.specs.Check.{mostRules, lone, anyParameter}
+use Rattle.terms.specs.Grammar.{Name, terminal, nonterminal, parameter, nothing, ruleRank, allowed, isParameter, sumOver}
+use Rattle.terms.specs.Check.{mostRules}
 use Rattle.terms.proofs.Grammar.Sum.{sum-over-le}
 use Rattle.nodes.specs.Nodes.{HasRank, counting, treesIn, ruledBy}
 use Rattle.nodes.specs.declared.wholes.Wholes.{Wholes}
@@ -32,18 +32,6 @@ count-set counts j h k = go (ℕ-discrete k j)
     go : Dec (k ≡ j) → getD (set counts j (getD counts j 0 + 1)) k 0 ≡ isParameter k (parameter j) + getD counts k 0
     go (yes e) = rw (e, eq-eqb j j refl, getD-set-same counts j _ 0 h) (omega arith)
     go (no n) = rw (ne-eqb k j n, getD-set-other counts j k _ 0 n) (omega arith)
-
--- more or fewer nodes than one are no lone parameter
-pub not-lone : (nodes : List ℕ) → (length nodes ≡ 1 → ⊥) → false ≡ lone nodes
-not-lone [] h = refl
-not-lone (m ∷ []) h = absurd (h refl)
-not-lone (m ∷ n ∷ nodes) h = refl
-
--- one node is a lone parameter where it is a parameter
-pub lone-node : (nodes : List ℕ) → length nodes ≡ 1 → lone nodes ≡ anyParameter (name (getD nodes 0 0))
-lone-node [] h = absurd (omega arith)
-lone-node (m ∷ []) h = refl
-lone-node (m ∷ n ∷ nodes) h = absurd (omega arith)
 
 -- what is allowed has a rank
 pub has-rank : (alphabet : List ℕ) (i n : ℕ) (x : Name) → allowed alphabet i n x ≡ true → i ≤ mostRules → HasRank (length alphabet) x

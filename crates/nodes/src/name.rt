@@ -4,8 +4,7 @@ use terms::Rule;
 use terms::Terminal;
 ghost use mathlib.Core.Path.{_≡_};
 ghost use lib.ListN.{length};
-ghost use Rattle.terms.specs.Grammar.{name, allowed, nameRank};
-ghost use Rattle.terms.specs.Check.{anyParameter};
+ghost use Rattle.terms.specs.Grammar.{name, allowed, nameRank, anyParameter};
 ghost use Rattle.nodes.specs.Nodes.{naming, ruledBy, HasRank};
 
 // Node bytes: terminals, a gap, rules, parameters, and nothing from there on.

@@ -3,7 +3,7 @@ use crate::name::Name;
 use checks::limits::HIGHEST_RANK;
 ghost use mathlib.Core.Path.{_≡_};
 ghost use Prim.Native.Nat.{_≤_};
-ghost use lib.Dec.{eqb};
+ghost use lib.Dec.{leb};
 ghost use lib.ListN.{getD};
 ghost use Rattle.terms.specs.Test.{every};
 ghost use Rattle.terms.specs.Check.{highestRank};
@@ -25,15 +25,15 @@ pub fn count_parameter(name: Name, counts: &mut [u8; HIGHEST_RANK as usize])
     }
 }
 
-// Whether each of the first parameters, as many as the rank, occurs once.
-pub fn each_once(counts: &[u8; HIGHEST_RANK as usize], rank: u8) -> bool
+// Whether each of the first parameters, as many as the rank, occurs at most once.
+pub fn each_at_most_once(counts: &[u8; HIGHEST_RANK as usize], rank: u8) -> bool
     requires { ⌜ rank ≤ highestRank ⌝ }
-    ensures { λ r. ⌜ r ≡ every rank (λ j. eqb (getD (now (counts .entry)) j 0) 1) ⌝ }
+    ensures { λ r. ⌜ r ≡ every rank (λ j. leb (getD (now (counts .entry)) j 0) 1) ⌝ }
 {
     let mut left = rank as usize;
     while 0 < left {
         left -= 1;
-        if counts[left] != 1 {
+        if 1 < counts[left] {
             return false;
         }
     }

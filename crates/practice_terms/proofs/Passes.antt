@@ -4,13 +4,13 @@ use mathlib.Core.Bool.{true, false}
 use mathlib.Core.List.{List}
 use Prim.Native.Nat.{ℕ, suc, _+_, _-_, _≤_}
 use native.Mathlib.Omega.{arith}
-use lib.Dec.{ltb, eqb}
+use lib.Dec.{leb, ltb}
 use lib.ListN.{length}
 use borrow.Author.Tests.{lt-ltb, le-ltb, eq-eqb, ne-eqb}
 use Rattle.terms.specs.Test.{all, every}
 use Rattle.terms.specs.Tree.{exactly, taking, wholes}
 use Rattle.terms.specs.Grammar.{parameter, nameOf, name, Rule, ruleAt, ruleRank, rankIn, allAllowed, isParameter, sumOver, nodeCount}
-use Rattle.terms.specs.Check.{lone, ruleRefusal, rulesRefusal}
+use Rattle.terms.specs.Check.{ruleRefusal, rulesRefusal}
 use Rattle.terms.proofs.Refusal.{none-refused}
 use Rattle.terms.proofs.Grammar.Name.{name-terminal, name-call}
 use Rattle.practice_terms.specs.Draw.{Choice, calls, beside}
@@ -29,14 +29,13 @@ record Passing (rules : List Rule) (i : ℕ) (r : Rule) : Type 0 where
   small : ltb 4 (r .rank) ≡ false
   allowed : allAllowed practiceAlphabet i (r .rank) (r .nodes) ≡ true
   whole : wholes (rankIn practiceAlphabet rules) (r .nodes) ≡ exactly 1
-  once : every (r .rank) (λ j. eqb (sumOver (isParameter j) (r .nodes)) 1) ≡ true
-  several : lone (r .nodes) ≡ false
+  once : every (r .rank) (λ j. leb (sumOver (isParameter j) (r .nodes)) 1) ≡ true
 
 passing : (rules : List Rule) (i : ℕ) (r : Rule) → ruleAt rules i ≡ r → Passing rules i r → ruleRefusal practiceAlphabet rules i ≡ 0
 unfolding ruleRefusal
 passing rules i r e p =
     let q : Passing rules i (ruleAt rules i) = subst (Passing rules i) (sym e) p in
-    rw (q .small, q .allowed, q .whole, q .once, q .several)
+    rw (q .small, q .allowed, q .whole, q .once)
 
 module _ (cs : List Choice) (few : length cs ≤ 20) where
   abbrev rules : List Rule
@@ -76,7 +75,6 @@ module _ (cs : List Choice) (few : length cs ≤ 20) where
     allowed = rw (name-terminal 1 (omega arith), name-parameter);
     whole = rw (rank-h, rank-parameter);
     once = rw (name-terminal 1 (omega arith), name-parameter);
-    several = refl;
   }
 
   drawn-passes : (i : ℕ) → i ≤ length cs → (c : Choice) → Below i c → Passing rules i (drawnRule c)
@@ -86,14 +84,12 @@ module _ (cs : List Choice) (few : length cs ≤ 20) where
     allowed = rw (name-call j (omega arith), name-call k (omega arith), name-parameter, lt-ltb j i (b .0), lt-ltb k i (b .1));
     whole = rw (rank-call j (omega arith), rank-call k (omega arith), rank-parameter);
     once = rw (name-call j (omega arith), name-call k (omega arith), name-parameter);
-    several = refl;
   }
   drawn-passes i l (beside j) b = record {
     small = refl;
     allowed = rw (name-terminal 2 (omega arith), name-call j (omega arith), name-parameter, name-terminal 0 (omega arith), lt-ltb j i b);
     whole = rw (rank-f, rank-call j (omega arith), rank-parameter, rank-a);
     once = rw (name-terminal 2 (omega arith), name-call j (omega arith), name-parameter, name-terminal 0 (omega arith));
-    several = refl;
   }
 
   last-passes : (i : ℕ) → i ≡ suc (length cs) → Passing rules i (lastRule (length cs))
@@ -103,7 +99,6 @@ module _ (cs : List Choice) (few : length cs ≤ 20) where
     allowed = rw (name-call (length cs) (omega arith), name-terminal 0 (omega arith), lt-ltb (length cs) i (omega arith));
     whole = rw (rank-call (length cs) (omega arith), rank-a);
     once = refl;
-    several = refl;
   }
 
   shape-passes : (i : ℕ) → Shape cs i → ruleRefusal practiceAlphabet rules i ≡ 0

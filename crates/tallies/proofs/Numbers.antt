@@ -12,7 +12,7 @@ use Rattle.terms.specs.Refusal.{_when_, orElse, first, outside}
 use Rattle.terms.specs.Tree.{wholes}
 use Rattle.terms.specs.Grammar.{Rule, ruleAt, ruleRank, rankIn, allAllowed, isParameter, sumOver, nodeCount}
 use Rattle.terms.specs.Sheet.{contentsLength, body, alphabetOf, rulesBody, automatonOf, stateCount, finals, transitionCount}
-use Rattle.terms.specs.Check.{mostTerminals, mostRules, mostNodes, highestRank, longestSheet, alphabetRefusal, isOne, lone, ruleRefusal, rulesRefusal, transitionFits, wrongLength, wrongStates, automatonRefusal, joins, sheetRefusal}
+use Rattle.terms.specs.Check.{mostTerminals, mostRules, mostNodes, highestRank, longestSheet, alphabetRefusal, isOne, ruleRefusal, rulesRefusal, transitionFits, wrongLength, wrongStates, automatonRefusal, joins, sheetRefusal}
 use Rattle.terms.specs.FormBytes.{formLength}
 use Rattle.terms.specs.Answer.{refused, answered, answer}
 use Rattle.terms.specs.Calls.{rulesAsked, makingRefusal, sheetMarkingRefusal, MarkAnswer, sheetMark}
@@ -48,7 +48,7 @@ rule-number alphabet rules i =
     then (row 8 (ltb highestRank rank) (omega arith))
     (then (row 9 (not (allAllowed alphabet i rank nodes)) (omega arith))
     (then (row 10 (not (isOne (wholes (rankIn alphabet rules) nodes))) (omega arith))
-    (then (row 11 (not (every rank (λ j. eqb (sumOver (isParameter j) nodes) 1))) (omega arith)) (then (row 12 (lone nodes) (omega arith)) none))))
+    (then (row 11 (not (every rank (λ j. leb (sumOver (isParameter j) nodes) 1))) (omega arith)) none)))
 
 rules-number : (alphabet bs : List ℕ) → rulesRefusal alphabet bs ≤ 16
 unfolding rulesRefusal

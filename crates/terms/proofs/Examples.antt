@@ -1,4 +1,4 @@
--- The proved table: the definitions give, for every sheet and every call of the examples, what document 01 says.
+-- The proved table: the definitions give, for every sheet and every call of the examples, what documents 01 and 02 say.
 use mathlib.Core.Path.{_≡_, refl}
 use mathlib.Core.List.{List, map}
 use Rattle.terms.specs.Test.{any, all, some, every, tabulate, joined}
@@ -15,7 +15,7 @@ use Rattle.terms.specs.Check.{alphabetRefusal, isTree, treeRefusal, tran
 use Rattle.terms.specs.FormBytes.{tableRule, tableRules, formTree, ruleFits, validFor, formRefusal}
 use Rattle.terms.specs.Count.{sizeAnswer}
 use Rattle.terms.specs.Calls.{makingRefusal, sheetMarkingRefusal, openingRefusal, readingRefusal, evaluationRefusal, relationsOf, formMask, rulesCounts, sizeRefusal, unfoldingRefusal, labelRefusal, labelAt, walkRefusal, walkMask, walkMasks, wrapRefusal}
-use Rattle.terms.specs.Examples.{SheetRow, CallRow, hex, times, outcome, W, K7, K8, desk, papers, sheetRefusals, form, fieldRefusals, calls}
+use Rattle.terms.specs.Examples.{SheetRow, CallRow, hex, times, outcome, W, K7, K8, desk, papers, sheetRefusals, emptyPlaces, form, fieldRefusals, calls}
 
 -- each sheet comes out as its row says
 abbrev pub SheetsHold : List SheetRow → Type 0
@@ -26,6 +26,6 @@ abbrev pub CallsHold : List CallRow → Type 0
 CallsHold rows = map (λ r. r .gives) rows ≡ map (λ r. r .says) rows
 
 -- all rows hold
-pub table-holds : SheetsHold desk × SheetsHold papers × SheetsHold sheetRefusals × CallsHold fieldRefusals × CallsHold calls
-unfolding any all some every tabulate joined word preorder preorders firsts rest pick forestOf treeOf taking wholes join plug compose before after name rankIn rightSide value values apply derived bit has setOf allIn fires step mask masks through entry treeIn contextIn treesAt valueOf valueAt matrix relation entryOf body readRules rulesBody rulesOf nodesOf transitionCount transitionAt transitionsOf sheetTree sheetMask sheetVerdict sheetOf wrapped alphabetRefusal isTree treeRefusal transitionFits automatonRefusal ruleRefusal rulesRefusal joins sheetRefusal tableRule tableRules formTree ruleFits validFor formRefusal sizeAnswer makingRefusal sheetMarkingRefusal openingRefusal readingRefusal evaluationRefusal relationsOf formMask rulesCounts sizeRefusal unfoldingRefusal labelRefusal labelAt walkRefusal walkMask walkMasks wrapRefusal hex times outcome W K7 K8 desk papers sheetRefusals form fieldRefusals calls
-table-holds = (refl, refl, refl, refl, refl)
+pub table-holds : SheetsHold desk × SheetsHold papers × SheetsHold sheetRefusals × SheetsHold emptyPlaces × CallsHold fieldRefusals × CallsHold calls
+unfolding any all some every tabulate joined word preorder preorders firsts rest pick forestOf treeOf taking wholes join plug compose before after name rankIn rightSide value values apply derived bit has setOf allIn fires step mask masks through entry treeIn contextIn treesAt valueOf valueAt matrix relation entryOf body readRules rulesBody rulesOf nodesOf transitionCount transitionAt transitionsOf sheetTree sheetMask sheetVerdict sheetOf wrapped alphabetRefusal isTree treeRefusal transitionFits automatonRefusal ruleRefusal rulesRefusal joins sheetRefusal tableRule tableRules formTree ruleFits validFor formRefusal sizeAnswer makingRefusal sheetMarkingRefusal openingRefusal readingRefusal evaluationRefusal relationsOf formMask rulesCounts sizeRefusal unfoldingRefusal labelRefusal labelAt walkRefusal walkMask walkMasks wrapRefusal hex times outcome W K7 K8 desk papers sheetRefusals emptyPlaces form fieldRefusals calls
+table-holds = (refl, refl, refl, refl, refl, refl)

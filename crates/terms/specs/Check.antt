@@ -1,5 +1,5 @@
--- What is refused of an alphabet, an automaton, a preorder tree and a sheet (document 01, "Refusals with a sheet for each", 1 to 16, 22 and 23).
-use mathlib.Core.Bool.{Bool, true, false, cond, not, _&&_, _||_}
+-- What is refused of an alphabet, an automaton, a preorder tree and a sheet (document 01, "Refusals with a sheet for each", 1 to 16 but the retired 12, 22 and 23).
+use mathlib.Core.Bool.{Bool, false, cond, not, _&&_, _||_}
 use mathlib.Core.List.{List, [], _∷_}
 use Prim.Native.Nat.{ℕ, _+_, _*_, _-_, _^_, _%_}
 use lib.Dec.{leb, ltb, eqb}
@@ -7,7 +7,7 @@ use lib.ListN.{length}
 use Rattle.terms.specs.Test.{all, every, tabulate}
 use Rattle.terms.specs.Refusal.{_when_, first, outside}
 use Rattle.terms.specs.Tree.{Wholes, exactly, lacking, wholes}
-use Rattle.terms.specs.Grammar.{Name, terminal, nonterminal, parameter, nothing, name, Rule, ruleAt, ruleRank, terminalRank, rankIn, allAllowed, isParameter, sumOver, nodeCount}
+use Rattle.terms.specs.Grammar.{Rule, ruleAt, ruleRank, terminalRank, rankIn, allAllowed, isParameter, sumOver, nodeCount}
 use Rattle.terms.specs.Sheet.{contentsLength, bodyOffset, bodyLength, body, alphabetOf, rulesBody, automatonOf, stateCount, finals, transitionCount, transitionByte}
 
 -- The limits.
@@ -98,20 +98,7 @@ automatonRefusal alphabet a = first (
 
 -- The rules: 5 to 13.
 
--- the name is a parameter (01 Refusals)
-abbrev pub anyParameter : Name → Bool
-anyParameter (terminal f) = false
-anyParameter (nonterminal r) = false
-anyParameter (parameter i) = true
-anyParameter nothing = false
-
--- the nodes are a lone parameter (01 Refusals)
-abbrev pub lone : List ℕ → Bool
-lone [] = false
-lone (m ∷ []) = anyParameter (name m)
-lone (m ∷ n ∷ ms) = false
-
--- rule i: 8 to 12 (01 Refusals)
+-- rule i: 8 to 11, where 11 is given only for a second occurrence of a parameter (01 Refusals, 02 R-3)
 unfoldable pub ruleRefusal : List ℕ → List Rule → ℕ → ℕ
 ruleRefusal alphabet rules i =
     let rank = ruleRank rules i in
@@ -120,8 +107,7 @@ ruleRefusal alphabet rules i =
     8 when (ltb highestRank rank)
     ∷ 9 when (not (allAllowed alphabet i rank nodes))
     ∷ 10 when (not (isOne (wholes (rankIn alphabet rules) nodes)))
-    ∷ 11 when (not (every rank (λ j. eqb (sumOver (isParameter j) nodes) 1)))
-    ∷ 12 when (lone nodes)
+    ∷ 11 when (not (every rank (λ j. leb (sumOver (isParameter j) nodes) 1)))
     ∷ [])
 
 -- the refusal of a rules body: 5 to 13 (01 Refusals)

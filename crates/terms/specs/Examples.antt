@@ -101,7 +101,7 @@ papers =
     marks (hex 34 0x0C00_0400_1000_1000_2000_0200_00000201_02050203800381_000740400001400100_0100) declined 0 13 (hex 13 0x02030203000301030203010300)
     ∷ []
 
--- refusals 1 to 16: an example, and a row for each other thing that the number's test looks at (01 Refusals)
+-- refusals 1 to 11 and 13 to 16: an example, and a row for each other thing that the number's test looks at (01 Refusals, 02 R-3)
 unfoldable pub sheetRefusals : List SheetRow
 sheetRefusals =
     refuses 1 []
@@ -143,20 +143,19 @@ sheetRefusals =
     ∷ refuses 9 (wWith 22 0x20)
     ∷ refuses 9 (wWith 22 0x84)
     ∷ refuses 9 (wWith 22 0xFF)
-    -- two trees; a child that is lacking; no nodes
+    -- two trees; a child that is lacking; another where rule 0 has a second parameter, which it leaves out; no nodes
     ∷ refuses 10 (wWith 28 0x00)
     ∷ refuses 10 (wWith 31 0x02)
+    ∷ refuses 10 (wWith 15 0x02)
     ∷ refuses 10 (hex 12 0x0C00_0300_0F00_0200_1100_1A00 ++ (wAlphabet ++ (hex 2 0x0000 ++ wAutomaton)))
-    -- a parameter twice and another not at all; a parameter that does not occur; f(y1, y1)
+    -- a parameter twice and another not at all; f(y1, y1)
     ∷ refuses 11 (wWith 25 0x81)
-    ∷ refuses 11 (wWith 15 0x02)
     ∷ refuses 11 (hex 12 0x0C00_0300_0F00_0500_1400_1A00 ++ (wAlphabet ++ (hex 5 0x0103018080 ++ wAutomaton)))
-    -- rule 01 01 80
-    ∷ refuses 12 (hex 12 0x0C00_0300_0F00_0300_1200_1A00 ++ (wAlphabet ++ (hex 3 0x010180 ++ wAutomaton)))
-    -- rule 0 refused by 12 and rule 1 by 8: rule by rule
-    ∷ refuses 12 (hex 12 0x0C00_0300_0F00_0600_1500_1A00 ++ (wAlphabet ++ (hex 6 0x010180_050100 ++ wAutomaton)))
-    -- W without rule 2
+    -- rule 0 refused by 11 and rule 1 by 8: rule by rule
+    ∷ refuses 11 (hex 12 0x0C00_0300_0F00_0800_1700_1A00 ++ (wAlphabet ++ (hex 8 0x0103018080_050100 ++ wAutomaton)))
+    -- W without rule 2; rule 01 01 80
     ∷ refuses 13 (hex 12 0x0C00_0300_0F00_0B00_1A00_1A00 ++ (wAlphabet ++ (take 11 wRules ++ wAutomaton)))
+    ∷ refuses 13 (hex 12 0x0C00_0300_0F00_0300_1200_1A00 ++ (wAlphabet ++ (hex 3 0x010180 ++ wAutomaton)))
     -- W less its last byte; an automaton of 1 byte; 256 transitions
     ∷ refuses 14 (take 57 (wWith 10 0x19))
     ∷ refuses 14 (take 33 (wWith 10 0x01))
@@ -172,6 +171,26 @@ sheetRefusals =
     ∷ refuses 16 (wWith 55 0x02)
     ∷ refuses 16 (wWith 43 0x00)
     ∷ refuses 16 (wWith 57 0x00)
+    ∷ []
+
+-- rules that leave out a parameter or are a lone one, and what is refused in an argument that is dropped (02 R-3)
+unfoldable pub emptyPlaces : List SheetRow
+emptyPlaces =
+    -- y1, called on a
+    marks (hex 12 0x0C00_0300_0F00_0700_1600_1A00 ++ (wAlphabet ++ (hex 7 0x010180_00024000 ++ wAutomaton))) accepted 1 1 (hex 1 0x00)
+    -- y1 of two parameters, called on a, h(a)
+    ∷ marks (hex 12 0x0C00_0300_0F00_0900_1800_1A00 ++ (wAlphabet ++ (hex 9 0x020180_000440000200 ++ wAutomaton))) accepted 1 1 (hex 1 0x00)
+    -- the same through a rule that has each of its two parameters
+    ∷ marks (hex 12 0x0C00_0300_0F00_0E00_1D00_1A00 ++ (wAlphabet ++ (hex 14 0x020180_0203408081_000441000200 ++ wAutomaton))) accepted 1 1 (hex 1 0x00)
+    -- f(y3, y1), called on a, a, h(a)
+    ∷ marks (hex 12 0x0C00_0300_0F00_0C00_1B00_1A00 ++ (wAlphabet ++ (hex 12 0x0303018280_00054000000200 ++ wAutomaton))) declined 0 4 (hex 4 0x01020000)
+    -- a of one parameter, called on f(a, a), which has no run: the one transition is a to 0
+    ∷ marks (hex 12 0x0C00_0300_0F00_0900_1800_0800 ++ (wAlphabet ++ (hex 9 0x010100_000440010000 ++ hex 8 0x0201_0000FFFFFFFF))) accepted 1 1 (hex 1 0x00)
+    -- in an argument that is dropped: a parameter that the rule does not have; a child that is lacking; the second occurrence of y1; both of them
+    ∷ refuses 9 (hex 12 0x0C00_0300_0F00_0B00_1A00_1A00 ++ (wAlphabet ++ (hex 11 0x020180_0103408081_000100 ++ wAutomaton)))
+    ∷ refuses 10 (hex 12 0x0C00_0300_0F00_0800_1700_1A00 ++ (wAlphabet ++ (hex 8 0x010100_0003400100 ++ wAutomaton)))
+    ∷ refuses 11 (hex 12 0x0C00_0300_0F00_0B00_1A00_1A00 ++ (wAlphabet ++ (hex 11 0x020180_0103408080_000100 ++ wAutomaton)))
+    ∷ refuses 11 (hex 12 0x0C00_0300_0F00_0C00_1B00_1A00 ++ (wAlphabet ++ (hex 12 0x010100_010440018080_000100 ++ wAutomaton)))
     ∷ []
 
 -- what the definitions give for a call, and what must come out (01 Sheets for the desk)

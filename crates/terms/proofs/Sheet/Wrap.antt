@@ -1,6 +1,6 @@
 -- A plain tree that is wrapped into a sheet: the sheet is not refused, its bodies are those given, and its tree is the tree given.
 use mathlib.Core.Path.{_≡_, refl, sym, ap, subst, _∙_}
-use mathlib.Core.Bool.{Bool, true, false}
+use mathlib.Core.Bool.{Bool, true}
 use mathlib.Core.List.{List, [], _∷_}
 use Prim.Native.Nat.{ℕ, _+_, _≤_, _<_}
 use native.Mathlib.Omega.{arith}
@@ -12,7 +12,7 @@ use Rattle.terms.specs.Test.{all, every, tabulate}
 use Rattle.terms.specs.Tree.{Tree, Forest, node, none, more, preorder, preorders, pick, forestOf, treeOf, exactly, wholes}
 use Rattle.terms.specs.Grammar.{terminal, name, Rule, terminalRank, rankIn, rightSide, allowed, allAllowed, apply, derived, Terminals, AllTerminals}
 use Rattle.terms.specs.Sheet.{RulesBody, readRules, rulesBody, rulesOf, alphabetOf, automatonOf, sheetTree, wrapped}
-use Rattle.terms.specs.Check.{isOne, isTree, lone, ruleRefusal, rulesRefusal, alphabetRefusal, automatonRefusal, treeRefusal, sheetRefusal}
+use Rattle.terms.specs.Check.{isOne, isTree, ruleRefusal, rulesRefusal, alphabetRefusal, automatonRefusal, treeRefusal, sheetRefusal}
 use Rattle.terms.specs.Calls.{wrapRefusal}
 use Rattle.terms.proofs.Test.{is-true, both, both-0, both-1, parts, all-append}
 use Rattle.terms.proofs.Refusal.{none-before, no-row}
@@ -65,12 +65,6 @@ module _ (alphabet : List ℕ) (few : length alphabet ≤ 32) where
       let (p, q) = parts (Known f) (all Known fs) h in
       both (allowed alphabet 0 0 (name f)) (allAllowed alphabet 0 0 fs) (rw (name-known f p) p) (allowed-known fs q)
 
-  not-lone : (fs : List ℕ) → T (all Known fs) → lone fs ≡ false
-  unfolding all
-  not-lone [] h = refl
-  not-lone (f ∷ []) h = rw (name-known f (both-0 (Known f) true h))
-  not-lone (f ∷ g ∷ fs) h = refl
-
   mutual
     unfolding preorder preorders all
 
@@ -97,7 +91,7 @@ module _ (alphabet : List ℕ) (few : length alphabet ≤ 32) where
     wrapped-rules-pass : rulesRefusal alphabet (0 ∷ length tree ∷ tree) ≡ 0
     unfolding rulesRefusal ruleRefusal tabulate every
     wrapped-rules-pass =
-        rw (one-rule tree, le-ltb 128 (length tree + 0) (omega arith), is-true (allAllowed alphabet 0 0 tree) (allowed-known tree known), wholes-known (single tree) tree known, whole, not-lone tree known)
+        rw (one-rule tree, le-ltb 128 (length tree + 0) (omega arith), is-true (allAllowed alphabet 0 0 tree) (allowed-known tree known), wholes-known (single tree) tree known, whole)
 
     -- the tree that the one rule derives is the tree given
     single-derives : derived alphabet (single tree) ≡ treeOf (terminalRank alphabet) tree

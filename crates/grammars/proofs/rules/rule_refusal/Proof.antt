@@ -1,15 +1,15 @@
 -- `grammars::rules::rule_refusal` meets its contract. The loop's invariant, over the nodes from a place on: they are allowed, and the trees that they make and the
--- times that each parameter occurs are counted. A node that is not allowed is refusal 9; with all nodes passed, the counts decide 10 to 12.
+-- times that each parameter occurs are counted. A node that is not allowed is refusal 9; with all nodes passed, the counts decide 10 and 11.
 use mathlib.Core.Path.{_≡_, refl, sym, _∙_}
 use mathlib.Core.Bool.{true, false, not}
 use Prim.Native.Nat.{ℕ}
 use native.Mathlib.Omega.{arith}
 use borrow.Author.Tests.{not-true, not-false}
-use lib.Dec.{eqb}
+use lib.Dec.{leb}
 use lib.ListN.{getD, drop, length-drop}
 use Rattle.terms.specs.Test.{every}
 use Rattle.terms.specs.Grammar.{allowed}
-use Rattle.terms.specs.Check.{highestRank, isOne, lone, ruleRefusal}
+use Rattle.terms.specs.Check.{highestRank, isOne, ruleRefusal}
 use Rattle.nodes.specs.Nodes.{naming, counting}
 use Rattle.grammars.specs.Rules.{seenFrom}
 use Rattle.grammars.proofs.List.{all-zero}
@@ -109,7 +109,7 @@ decided : (c : tie.After-loop Inv-loop μ-loop)
     → let l = c .before in
     let s = begin l in
     asked s
-    ≡ rows false false (not (isOne (counting (l .loop .behind)))) (not (every (s .args .rank) (λ j. eqb (getD (l .loop .counts) j 0) 1))) (lone (s .args .nodes .now))
+    ≡ rows false false (not (isOne (counting (l .loop .behind)))) (not (every (s .args .rank) (λ j. leb (getD (l .loop .counts) j 0) 1)))
 decided c = all-scanned _ _ _ _ _ (omega arith) (omega arith) _ _ _ (omega arith) (c .before .loop .inv)
 
 broken : tie.Need-returns-3 Inv-loop μ-loop
@@ -122,32 +122,17 @@ looped c = c .before .before .before
 one : (c : tie.Else3 Inv-loop μ-loop)
     → let l = looped c in
     let s = begin l in
-    asked s ≡ rows false false false (not (every (s .args .rank) (λ j. eqb (getD (l .loop .counts) j 0) 1))) (lone (s .args .nodes .now))
+    asked s ≡ rows false false false (not (every (s .args .rank) (λ j. leb (getD (l .loop .counts) j 0) 1)))
 one c = decided (c .before .before) ∙ rw (sym (c .before .is-one .ensures) ∙ not-false _ (c .if3 .left))
 
-each-once-requires : tie.Need-each-once-requires Inv-loop μ-loop
-each-once-requires c κs = omega arith
+each-at-most-once-requires : tie.Need-each-at-most-once-requires Inv-loop μ-loop
+each-at-most-once-requires c κs = omega arith
 
-lost : tie.Need-returns-4 Inv-loop μ-loop
-lost c = sym (one (c .before .before .before) ∙ rw (sym (c .before .each-once .ensures) ∙ not-true _ (c .if4 .taken)))
+twice : tie.Need-returns-4 Inv-loop μ-loop
+twice c = sym (one (c .before .before .before) ∙ rw (sym (c .before .each-at-most-once .ensures) ∙ not-true _ (c .if4 .taken)))
 
-lone-requires : tie.Need-lone-requires Inv-loop μ-loop
-lone-requires c κs = tt
-
-abbrev one-tree : tie.After-lone Inv-loop μ-loop → tie.Else3 Inv-loop μ-loop
-one-tree c = c .before .before .before .before
-
--- past the test each parameter occurs once
-once : (c : tie.After-lone Inv-loop μ-loop) → asked (begin (looped (one-tree c))) ≡ rows false false false false (c .lone .result)
-once c =
-    let t = c .before in
-    one (one-tree c) ∙ rw (sym (t .before .each-once .ensures) ∙ not-false _ (t .if4 .left), sym (c .lone .ensures))
-
-bare : tie.Need-returns-5 Inv-loop μ-loop
-bare c = sym (once (c .before) ∙ rw (c .if5 .taken))
-
-passes : tie.Need-returns-6 Inv-loop μ-loop
-passes c = sym (once (c .before) ∙ rw (c .if5 .left))
+passes : tie.Need-returns-5 Inv-loop μ-loop
+passes c = sym (one (c .before .before .before) ∙ rw (sym (c .before .each-at-most-once .ensures) ∙ not-false _ (c .if4 .left)))
 
 pub rule-refusal-spec : {M : Type 1} → statement M
 rule-refusal-spec =
@@ -169,8 +154,6 @@ rule-refusal-spec =
     loop-again
     is-one-requires
     broken
-    each-once-requires
-    lost
-    lone-requires
-    bare
+    each-at-most-once-requires
+    twice
     passes)
