@@ -5,7 +5,8 @@ use Prim.Native.Nat.{ℕ, suc, _+_, _≤_}
 use native.Mathlib.Omega.{arith}
 use lib.ListN.{length, take, drop, length-append}
 use lib.Seq.{length-take-le, take-append-seam, take-append-add}
-use Rattle.practice_terms.specs.Practice.{lastRule, ruleBytes, rulesBytes, practiceRules}
+use Rattle.terms.specs.Sheet.{writtenRule, writtenRules}
+use Rattle.practice_terms.specs.Practice.{lastRule, practiceRules}
 use Rattle.practice_rules.specs.Drawn.{afterRule, bytesFrom, Copied, Drawn}
 use Rattle.practice_rules.specs.declared.rules.Progress.{Progress}
 use Rattle.practice_rules.proofs.Numbers.{afterRules}
@@ -53,9 +54,9 @@ reached-more x n {progress} {progress′} {exit} {entry} r h d =
 
 -- the last rule
 pub reached-last : (x m : ℕ) {progress : Progress} {exit entry : List ℕ} → Reached x m progress entry → progress .end ≤ length entry
-    → Copied (ruleBytes (lastRule m)) (progress .end) exit entry
-    → (progress .end + 4 ≡ length (rulesBytes (practiceRules x m))) × (take (progress .end + 4) exit ≡ rulesBytes (practiceRules x m))
+    → Copied (writtenRule (lastRule m)) (progress .end) exit entry
+    → (progress .end + 4 ≡ length (writtenRules (practiceRules x m))) × (take (progress .end + 4) exit ≡ writtenRules (practiceRules x m))
 reached-last x m {progress} {exit} {entry} r h w =
-    let last = ruleBytes (lastRule m) in
+    let last = writtenRule (lastRule m) in
     let e = written-last x m in
     (omega (arith, r .end, ap length e, length-append (written m x) last), put-behind (written m x) last entry exit (progress .end) h (r .bytes) w ∙ sym e)

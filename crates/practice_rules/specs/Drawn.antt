@@ -4,8 +4,9 @@ use mathlib.Core.Bool.{cond}
 use mathlib.Core.List.{List, _++_}
 use Prim.Native.Nat.{ℕ, _+_, _%_}
 use lib.ListN.{length, take, drop}
+use Rattle.terms.specs.Sheet.{writtenRule}
 use Rattle.practice_terms.specs.Draw.{next, draw, isEven, Choice, calls, beside}
-use Rattle.practice_terms.specs.Practice.{drawnRule, ruleBytes}
+use Rattle.practice_terms.specs.Practice.{drawnRule}
 use Rattle.practice_rules.specs.declared.rules.Progress.{Progress}
 
 -- the choice for rule i, where the generator has come to x
@@ -24,7 +25,7 @@ afterRule x =
 
 -- the bytes of the rule that is chosen
 abbrev pub bytesFrom : ℕ → ℕ → List ℕ
-bytesFrom i x = ruleBytes (drawnRule (choiceFrom i x))
+bytesFrom i x = writtenRule (drawnRule (choiceFrom i x))
 
 -- bytes copied to a place, as `copy_at` leaves them
 abbrev pub Copied : List ℕ → ℕ → List ℕ → List ℕ → Type 0

@@ -7,8 +7,9 @@ use nodes::name::FIRST_RULE;
 ghost use mathlib.Core.Path.{_≡_};
 ghost use Prim.Native.Nat.{_+_, _%_, _≤_, _<_};
 ghost use lib.ListN.{length, take};
+ghost use Rattle.terms.specs.Sheet.{writtenRules};
 ghost use Rattle.practice_terms.specs.Draw.{draw as Draw·draw};
-ghost use Rattle.practice_terms.specs.Practice.{rulesBytes, practiceRules};
+ghost use Rattle.practice_terms.specs.Practice.{practiceRules};
 ghost use Rattle.practice_rules.specs.Drawn.{Drawn};
 
 // The terminals of practice sheets.
@@ -76,7 +77,7 @@ fn write_drawn(x: u32, i: usize, rules: &mut [u8], at: usize) -> Progress
 // Writes the rules body of a first x and m at the beginning of a slice, and answers its length.
 pub fn write_rules(first: u32, m: usize, rules: &mut [u8]) -> usize
     requires { ⌜ (m ≤ 20) × (128 ≤ length (now rules)) ⌝ }
-    ensures { λ r. ⌜ (r ≡ length (rulesBytes (practiceRules first m))) × (take r (now (rules .exit)) ≡ rulesBytes (practiceRules first m)) ⌝ }
+    ensures { λ r. ⌜ (r ≡ length (writtenRules (practiceRules first m))) × (take r (now (rules .exit)) ≡ writtenRules (practiceRules first m)) ⌝ }
 {
     copy_at(&[1, 2, H, FIRST_PARAMETER], rules, 0);
     let mut progress = Progress {

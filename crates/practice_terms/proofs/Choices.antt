@@ -6,8 +6,9 @@ use Prim.Native.Nat.{ℕ, zero, suc, _+_, _*_, _%_, _≤_, _<_}
 use native.Mathlib.Omega.{arith}
 use native.Mathlib.Nat.{mod-lt}
 use lib.ListN.{length, drop}
+use Rattle.terms.specs.Sheet.{writtenRule}
 use Rattle.practice_terms.specs.Draw.{draws, drawAt, isEven, Choice, calls, beside, choice, taken, choicesBy, choices}
-use Rattle.practice_terms.specs.Practice.{ruleBytes, drawnRule}
+use Rattle.practice_terms.specs.Practice.{drawnRule}
 
 -- the choice for rule i names rules below it
 abbrev pub Below : ℕ → Choice → Type 0
@@ -50,7 +51,7 @@ length-choices x m = length-by m 1 (draws (3 * m) x)
 
 abbrev pub choicesLength : List Choice → ℕ
 choicesLength [] = 0
-choicesLength (c ∷ cs) = length (ruleBytes (drawnRule c)) + choicesLength cs
+choicesLength (c ∷ cs) = length (writtenRule (drawnRule c)) + choicesLength cs
 
 pub length-most : (cs : List Choice) → choicesLength cs ≤ 6 * length cs
 length-most [] = omega arith

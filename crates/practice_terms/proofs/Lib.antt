@@ -1,5 +1,4 @@
 pub mod Choices
-pub mod Body
 pub mod Rules
 pub mod Passes
 pub mod Tree

@@ -13,10 +13,11 @@ use Rattle.terms.specs.Grammar.{parameter, nameOf, name, Rule, ruleAt, ruleRank
 use Rattle.terms.specs.Check.{ruleRefusal, rulesRefusal}
 use Rattle.terms.proofs.Refusal.{none-refused}
 use Rattle.terms.proofs.Grammar.Name.{name-terminal, name-call}
+use Rattle.terms.specs.Sheet.{writtenRules}
 use Rattle.practice_terms.specs.Draw.{Choice, calls, beside}
-use Rattle.practice_terms.specs.Practice.{practiceAlphabet, drawnRule, firstRule, lastRule, grammarOf, rulesBytes}
+use Rattle.practice_terms.specs.Practice.{practiceAlphabet, drawnRule, firstRule, lastRule, grammarOf}
 use Rattle.practice_terms.proofs.Choices.{Below, AllBelow, length-most}
-use Rattle.practice_terms.proofs.Body.{body-read}
+use Rattle.terms.proofs.Sheet.Rules.{rules-read}
 use Rattle.practice_terms.proofs.Rules.{choiceAt, length-rules, at-last, Shape, is-first, is-drawn, is-last, shape, rank-one, count-nodes}
 
 -- y1
@@ -111,8 +112,8 @@ module _ (cs : List Choice) (few : length cs ≤ 20) where
       let l : length rules - 1 ≡ suc (length cs) = omega (arith, length-rules cs) in
       ap (ruleRank rules) l ∙ ap (λ (r : Rule). r .rank) (at-last cs)
 
-  pub rules-pass : AllBelow 1 cs → rulesRefusal practiceAlphabet (rulesBytes rules) ≡ 0
+  pub rules-pass : AllBelow 1 cs → rulesRefusal practiceAlphabet (writtenRules rules) ≡ 0
   unfolding rulesRefusal
   rules-pass b =
       let n = length-rules cs in
-      rw (body-read rules, ne-eqb (length rules) 0 (λ z. omega arith), le-ltb 64 (length rules) (omega arith), le-ltb 128 (nodeCount rules) (omega (arith, count-nodes cs, length-most cs)), none-refused (length rules) (ruleRefusal practiceAlphabet rules) (λ i h. shape-passes i (shape cs b i h)), eq-eqb (ruleRank rules (length rules - 1)) 0 last-rank)
+      rw (rules-read rules, ne-eqb (length rules) 0 (λ z. omega arith), le-ltb 64 (length rules) (omega arith), le-ltb 128 (nodeCount rules) (omega (arith, count-nodes cs, length-most cs)), none-refused (length rules) (ruleRefusal practiceAlphabet rules) (λ i h. shape-passes i (shape cs b i h)), eq-eqb (ruleRank rules (length rules - 1)) 0 last-rank)

@@ -8,8 +8,9 @@ use native.Mathlib.Nat.{eq-or-lt-of-le}
 use lib.ListN.{length, getD, length-append, length-map, List·getD-append}
 use lib.Seq.{getD-at}
 use Rattle.terms.specs.Grammar.{Rule, ruleAt, ruleRank, nodeCount}
+use Rattle.terms.specs.Sheet.{writtenRules}
 use Rattle.practice_terms.specs.Draw.{Choice, calls, beside}
-use Rattle.practice_terms.specs.Practice.{drawnRule, firstRule, lastRule, grammarOf, rulesBytes}
+use Rattle.practice_terms.specs.Practice.{drawnRule, firstRule, lastRule, grammarOf}
 use Rattle.practice_terms.proofs.Choices.{Below, AllBelow, choicesLength}
 
 -- the choice for rule i, by its place
@@ -80,12 +81,12 @@ pub count-nodes : (cs : List Choice) → nodeCount (grammarOf cs) + 2 * length c
 unfolding grammarOf
 count-nodes cs = omega (arith, count-append cs (lastRule (length cs)))
 
-bytes-append : (cs : List Choice) (r : Rule) → length (rulesBytes (map drawnRule cs ++ (r ∷ []))) ≡ choicesLength cs + (2 + length (r .nodes))
-unfolding rulesBytes
+bytes-append : (cs : List Choice) (r : Rule) → length (writtenRules (map drawnRule cs ++ (r ∷ []))) ≡ choicesLength cs + (2 + length (r .nodes))
+unfolding writtenRules
 bytes-append [] r = omega (arith, length-append (r .nodes) [])
 bytes-append (calls j k ∷ cs) r = omega (arith, bytes-append cs r)
 bytes-append (beside j ∷ cs) r = omega (arith, bytes-append cs r)
 
-pub length-bytes : (cs : List Choice) → length (rulesBytes (grammarOf cs)) ≡ 4 + choicesLength cs + 4
-unfolding grammarOf rulesBytes
+pub length-bytes : (cs : List Choice) → length (writtenRules (grammarOf cs)) ≡ 4 + choicesLength cs + 4
+unfolding grammarOf writtenRules
 length-bytes cs = omega (arith, bytes-append cs (lastRule (length cs)))

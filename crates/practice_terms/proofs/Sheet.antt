@@ -8,18 +8,18 @@ use lib.ListN.{length}
 use borrow.Author.Tests.{ltb-false}
 use Rattle.terms.specs.Test.{all}
 use Rattle.terms.specs.Refusal.{outside}
-use Rattle.terms.specs.Sheet.{RulesBody, rulesBody, rulesOf, sheetTree}
+use Rattle.terms.specs.Sheet.{RulesBody, rulesBody, rulesOf, sheetTree, writtenRules}
 use Rattle.terms.specs.Check.{alphabetRefusal, automatonRefusal}
 use Rattle.terms.proofs.Test.{or-false}
 use Rattle.terms.proofs.Refusal.{none-before, no-row}
 use Rattle.terms.proofs.Sheet.Automaton.{automaton-passed}
 use Rattle.terms.proofs.Sheet.Write.{length-sheet, written-alphabet, written-rules, written-automaton, written-passes}
 use Rattle.practice_terms.specs.Draw.{Choice, choices}
-use Rattle.practice_terms.specs.Practice.{practiceAlphabet, rulesBytes, practiceRules, practiceSheet, givenRefusal, practiceRefusal}
+use Rattle.practice_terms.specs.Practice.{practiceAlphabet, practiceRules, practiceSheet, givenRefusal, practiceRefusal}
 use Rattle.practice_terms.specs.Described.{practiceTree}
 use Rattle.practice_terms.specs.Claims.{PracticeRight}
 use Rattle.practice_terms.proofs.Choices.{all-below, length-choices, length-most}
-use Rattle.practice_terms.proofs.Body.{body-read}
+use Rattle.terms.proofs.Sheet.Rules.{rules-read}
 use Rattle.practice_terms.proofs.Rules.{length-bytes}
 use Rattle.practice_terms.proofs.Passes.{rules-pass}
 use Rattle.practice_terms.proofs.Tree.{derives}
@@ -31,8 +31,8 @@ alphabet-passes = refl
 -- what is known of the lengths
 pub record PracticeLengths (x m : ℕ) (automaton : List ℕ) : Type 0 where
   pub automaton-bytes : length automaton ≤ 1532
-  pub rules-bytes : length (rulesBytes (practiceRules x m)) ≤ 128
-  pub sheet-bytes : length (practiceSheet x m automaton) ≡ 15 + (length (rulesBytes (practiceRules x m)) + length automaton)
+  pub rules-bytes : length (writtenRules (practiceRules x m)) ≤ 128
+  pub sheet-bytes : length (practiceSheet x m automaton) ≡ 15 + (length (writtenRules (practiceRules x m)) + length automaton)
 
 -- for every first x, and every automaton that passes 14 to 16
 module _ (x m : ℕ) (few : m ≤ 20) (automaton : List ℕ) (ea : automatonRefusal practiceAlphabet automaton ≡ 0) where
@@ -40,7 +40,7 @@ module _ (x m : ℕ) (few : m ≤ 20) (automaton : List ℕ) (ea : automatonRefu
   cs = choices x m
 
   abbrev bytes : List ℕ
-  bytes = rulesBytes (practiceRules x m)
+  bytes = writtenRules (practiceRules x m)
 
   bytes-most : length bytes ≤ 128
   bytes-most = omega (arith, length-bytes cs, length-most cs, length-choices x m)
@@ -66,7 +66,7 @@ module _ (x m : ℕ) (few : m ≤ 20) (automaton : List ℕ) (ea : automatonRefu
       let low : length cs ≤ 20 = omega arith in
       let b = all-below x m in
       let wa = written-alphabet practiceAlphabet bytes automaton fits in
-      let wr = ap (λ (r : RulesBody). r .rules) (ap rulesBody (written-rules practiceAlphabet bytes automaton fits) ∙ body-read (practiceRules x m)) in
+      let wr = ap (λ (r : RulesBody). r .rules) (ap rulesBody (written-rules practiceAlphabet bytes automaton fits) ∙ rules-read (practiceRules x m)) in
       record {
         passes = written-passes practiceAlphabet bytes automaton alphabet-passes (rules-pass cs low b) ea (omega (arith, bytes-most));
         alphabet-given = wa;

@@ -5,7 +5,7 @@ use lib.Dec.{ltb}
 use lib.ListN.{length}
 use Rattle.terms.specs.Refusal.{_when_, first, outside}
 use Rattle.terms.specs.Grammar.{Rule}
-use Rattle.terms.specs.Sheet.{sheetOf}
+use Rattle.terms.specs.Sheet.{writtenRules, sheetOf}
 use Rattle.terms.specs.Check.{automatonRefusal}
 use Rattle.practice_terms.specs.Draw.{Choice, calls, beside, choices}
 
@@ -42,18 +42,9 @@ grammarOf cs = firstRule ∷ (map drawnRule cs ++ (lastRule (length cs) ∷ []))
 abbrev pub practiceRules : ℕ → ℕ → List Rule
 practiceRules x m = grammarOf (choices x m)
 
--- the bytes of a rule: rank, node count and nodes (01 Sheet)
-abbrev pub ruleBytes : Rule → List ℕ
-ruleBytes r = r .rank ∷ length (r .nodes) ∷ r .nodes
-
--- a rules body: the bytes of rules, one behind the other (01 Sheet)
-unfoldable pub rulesBytes : List Rule → List ℕ
-rulesBytes [] = []
-rulesBytes (r ∷ rs) = ruleBytes r ++ rulesBytes rs
-
 -- the practice sheet of a first x and m, written as wrap writes one (02 R-2)
 unfoldable pub practiceSheet : ℕ → ℕ → List ℕ → List ℕ
-practiceSheet x m automaton = sheetOf practiceAlphabet (rulesBytes (practiceRules x m)) automaton
+practiceSheet x m automaton = sheetOf practiceAlphabet (writtenRules (practiceRules x m)) automaton
 
 -- what is refused before anything is drawn: 27, 14 to 16 (02 R-2)
 abbrev pub givenRefusal : ℕ → List ℕ → ℕ

@@ -5,3 +5,4 @@ pub mod Passed
 pub mod Write
 pub mod Wrap
 pub mod Bodies
+pub mod Rules

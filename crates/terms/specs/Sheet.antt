@@ -125,6 +125,15 @@ contentsOf alphabet rules automaton =
     let a = r + rules in
     wordBytes contentsLength ++ (wordBytes alphabet ++ (wordBytes r ++ (wordBytes rules ++ (wordBytes a ++ wordBytes automaton))))
 
+-- a rule: its rank, its node count and its nodes (01 Sheet)
+abbrev pub writtenRule : Rule → List ℕ
+writtenRule r = r .rank ∷ length (r .nodes) ∷ r .nodes
+
+-- a rules body: rules one behind the other (01 Sheet)
+unfoldable pub writtenRules : List Rule → List ℕ
+writtenRules [] = []
+writtenRules (r ∷ rs) = writtenRule r ++ writtenRules rs
+
 -- a sheet of three bodies (01 Sheet)
 unfoldable pub sheetOf : List ℕ → List ℕ → List ℕ → List ℕ
 sheetOf alphabet rules automaton = contentsOf (length alphabet) (length rules) (length automaton) ++ (alphabet ++ (rules ++ automaton))
