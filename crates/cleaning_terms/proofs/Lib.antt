@@ -1,0 +1,16 @@
+pub mod Flags
+pub mod Names
+pub mod Each
+pub mod Sift
+pub mod Trees
+pub mod Sifted
+pub mod Bound
+pub mod Right
+pub mod Value
+pub mod Proper
+pub mod Same
+pub mod Presence
+pub mod Body
+pub mod Turn
+pub mod Claims
+pub mod Examples

@@ -1,0 +1,27 @@
+-- What is asked of a cleaned grammar (document 02, R-3).
+use mathlib.Core.Path.{_≡_}
+use mathlib.Core.Bool.{Bool, false, not}
+use mathlib.Core.List.{List}
+use Prim.Native.Nat.{ℕ, _<_}
+use lib.Dec.{T}
+use lib.ListN.{length}
+use Rattle.terms.specs.Test.{all}
+use Rattle.terms.specs.Grammar.{Name, terminal, nonterminal, parameter, nothing, name, Rule, ruleAt, ruleRank, isParameter, sumOver, Proper}
+use Rattle.cleaning_terms.specs.Cleaning.{lone}
+
+-- a node calls a rule that is a lone parameter (02 R-3)
+abbrev pub callsLone : List Rule → Name → Bool
+callsLone rules (terminal f) = false
+callsLone rules (nonterminal r) = lone (ruleAt rules r .nodes)
+callsLone rules (parameter j) = false
+callsLone rules nothing = false
+
+-- rule i has each of its parameters exactly once, and calls no rule that is a lone parameter (02 R-3)
+pub record CleanRule (rules : List Rule) (i : ℕ) : Type 0 where
+  pub exact : (j : ℕ) → j < ruleRank rules i → sumOver (isParameter j) (ruleAt rules i .nodes) ≡ 1
+  pub calls : T (all (λ m. not (callsLone rules (name m))) (ruleAt rules i .nodes))
+
+-- a grammar in which there is nothing to clean (02 R-3)
+pub record Clean (alphabet : List ℕ) (rules : List Rule) : Type 0 where
+  pub proper : Proper alphabet rules
+  pub clean : (i : ℕ) → i < length rules → CleanRule rules i

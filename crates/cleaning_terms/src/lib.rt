@@ -1,0 +1,1 @@
+// Cleaning a grammar: what it means, and its laws (document 02, R-3).
