@@ -1,17 +1,17 @@
 -- The nodes of a right side: a parameter's count, what an allowed node has, and how much the nodes can make.
-use mathlib.Core.Path.{_≡_, refl, ap}
+use mathlib.Core.Path.{_≡_, refl, _∙_, ap}
 use mathlib.Core.Bool.{Bool, true, false, cond}
 use mathlib.Core.List.{List, [], _∷_}
 use Prim.Native.Nat.{ℕ, zero, suc, _+_, _-_, _≤_, _<_}
 use native.Mathlib.Omega.{arith}
 use native.Mathlib.Decide.{ℕ-discrete}
 use borrow.Author.Tests.{eq-eqb, ne-eqb, ltb-true}
-use lib.Dec.{leb, eqb}
+use lib.Dec.{T, leb, eqb, ltb→lt}
 use lib.ListN.{length, getD, set}
 use lib.Seq.{getD-set-same, getD-set-other}
 use Rattle.terms.specs.Tree.{exactly, lacking, taking, wholes}
 use Rattle.terms.specs.Tree as tree
-use Rattle.terms.specs.Grammar.{Name, terminal, nonterminal, parameter, nothing, ruleRank, allowed, isParameter, sumOver}
+use Rattle.terms.specs.Grammar.{Name, terminal, nonterminal, parameter, nothing, Rule, ruleRank, nameRank, allowed, isParameter, sumOver}
 use Rattle.terms.specs.Check.{mostRules}
 use Rattle.terms.proofs.Grammar.Sum.{sum-over-le}
 use Rattle.nodes.specs.Nodes.{HasRank, counting, treesIn, ruledBy}
@@ -39,6 +39,14 @@ has-rank alphabet i n (terminal f) h l = ltb-true f (length alphabet) h
 has-rank alphabet i n (nonterminal r) h l = let k = ltb-true r i h in omega arith
 has-rank alphabet i n (parameter j) h l = tt
 has-rank alphabet i n nothing h l = tt
+
+-- the rank of what is allowed, where the ranks of the lower rules are known
+pub rank-lower : (alphabet ranks : List ℕ) (rules : List Rule) (i n : ℕ) → ((r : ℕ) → r < i → getD ranks r 0 ≡ ruleRank rules r) → (x : Name) → T (allowed alphabet i n x)
+    → nameRank alphabet (ruledBy ranks) x ≡ nameRank alphabet rules x
+rank-lower alphabet ranks rules i n known (terminal f) h = refl
+rank-lower alphabet ranks rules i n known (nonterminal r) h = rank-known ranks r ∙ known r (ltb→lt r i h)
+rank-lower alphabet ranks rules i n known (parameter j) h = refl
+rank-lower alphabet ranks rules i n known nothing h = refl
 
 -- a parameter that is allowed is one of the rule's
 pub own-parameter : (alphabet : List ℕ) (i n : ℕ) (x : Name) (j : ℕ) → allowed alphabet i n x ≡ true → x ≡ parameter j → j < n

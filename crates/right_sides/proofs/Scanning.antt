@@ -1,20 +1,19 @@
 -- The nodes of a right side from the last to the first: the stack of cells represents the model's stack of skeletons.
 use mathlib.Core.Path.{_≡_, refl, sym, subst, ap, _∙_}
-use mathlib.Core.Bool.{Bool, true, false, cond}
 use mathlib.Core.List.{List, [], _∷_}
 use Prim.Native.Nat.{ℕ, zero, suc, _+_, _*_, _-_, _≤_, _<_}
 use native.Mathlib.Omega.{arith}
-use borrow.Author.Tests.{leb-true}
-use lib.Dec.{T, leb, ltb→lt}
+use lib.Dec.{T, ltb→lt}
 use lib.ListN.{length, getD, drop, take, set, length-drop, length-set}
 use lib.Seq.{drop-cons, getD-drop, drop-drop, drop-set-lt, getD-set-same, take-all}
-use Rattle.terms.specs.Test.{all}
 use Rattle.terms.specs.Tree.{Wholes, exactly, lacking, taking, wholes}
 use Rattle.terms.specs.Grammar.{Name, terminal, nonterminal, parameter, nothing, name, ruleRank, nameRank, rankIn, allowed, sumOver}
 use Rattle.terms.specs.Form.{share}
 use Rattle.terms.specs.Check.{mostRules, mostNodes}
-use Rattle.terms.proofs.Test.{both-0, both-1, is-true}
+use Rattle.terms.proofs.Test.{all-at, is-true}
+use Rattle.terms.proofs.Grammar.Sum.{sum-over-drop}
 use Rattle.terms.proofs.Scan.{wholes-part}
+use Rattle.terms.proofs.Tree.Whole.{taken}
 use Rattle.skeletons.specs.Skeleton.{Skeletons, param, nil, cons}
 use Rattle.skeletons.specs.Make.{Mades, name-made}
 use Rattle.skeletons.specs.Scan.{top, pop, turn, scan}
@@ -26,7 +25,6 @@ use Rattle.right_sides.specs.Side.{NodeReady, NodeMade, sideBound, Right
 use Rattle.cells.specs.declared.state.Free.{Free}
 use Rattle.cells.specs.declared.state.Made.{Made}
 use Rattle.nodes.specs.Nodes.{ruledBy, HasRank}
-use Rattle.nodes.proofs.Node.{rank-known}
 use Rattle.nodes.proofs.Node as node
 use Rattle.cells.proofs.Standing.{row-at}
 use Rattle.cells.proofs.Adding.{grown-none, grown-then, grown-less, grown-within, grown-stands, grown-rows, room-less}
@@ -56,16 +54,6 @@ module _ (cells : List ℕ) (limit : ℕ) where
   row-pop (suc k) [] (cons s ss) p = absurd p
   row-pop (suc k) (x ∷ xs) (cons s ss) p = row-pop k xs ss (p .2)
 
--- a node has as many trees behind it as its rank
-taken : (k : ℕ) (w : Wholes) (n : ℕ) → taking k w ≡ exactly n → (m : ℕ) × (w ≡ exactly m) × (k ≤ m) × (n ≡ suc (m - k))
-unfolding taking
-taken k lacking n e = absurd (let z : _≡_ {A = ℕ} 0 1 = cc in omega arith)
-taken k (exactly m) n e = go (leb k m) refl e
-  where
-    go : (b : Bool) → leb k m ≡ b → cond b (exactly (suc (m - k))) lacking ≡ exactly n → (l : ℕ) × (exactly m ≡ exactly l) × (k ≤ l) × (n ≡ suc (l - k))
-    go true t e = (m, refl, leb-true k m t, cc)
-    go false t e = absurd (let z : _≡_ {A = ℕ} 0 1 = cc in omega arith)
-
 -- what stands behind a place is whole
 some-whole : (rank : ℕ → ℕ) (xs : List ℕ) (i n : ℕ) → wholes rank xs ≡ exactly n → (m : ℕ) × (wholes rank (drop i xs) ≡ exactly m)
 some-whole rank xs i n e = go (wholes rank (drop i xs)) refl
@@ -73,18 +61,6 @@ some-whole rank xs i n e = go (wholes rank (drop i xs)) refl
     go : (w : Wholes) → wholes rank (drop i xs) ≡ w → (m : ℕ) × (w ≡ exactly m)
     go (exactly m) t = (m, refl)
     go lacking t = absurd (let y = wholes-part rank xs i t in let z : _≡_ {A = ℕ} 0 1 = cc in omega arith)
-
-all-at : (p : ℕ → Bool) (xs : List ℕ) → T (all p xs) → (j : ℕ) → j < length xs → T (p (getD xs j 0))
-unfolding all
-all-at p [] h j l = absurd (omega arith)
-all-at p (x ∷ xs) h zero l = both-0 (p x) (all p xs) h
-all-at p (x ∷ xs) h (suc j) l = all-at p xs (both-1 (p x) (all p xs) h) j (omega arith)
-
--- the nodes from a place on add no more than all of them
-sum-later : (h : Name → ℕ) (i : ℕ) (xs : List ℕ) → sumOver h (drop i xs) ≤ sumOver h xs
-sum-later h zero xs = omega arith
-sum-later h (suc i) [] = omega arith
-sum-later h (suc i) (x ∷ xs) = omega (arith, sum-later h i xs)
 
 module _ {table₀ space₀ : List ℕ} {free₀ : Free} {alphabet ranks roots nodes : List ℕ} (g : RightSide table₀ space₀ free₀ alphabet ranks roots nodes) where
   abbrev rankOf : ℕ → ℕ
@@ -160,9 +136,10 @@ module _ {table₀ space₀ : List ℕ} {free₀ : Free} {alphabet ranks roots n
         let p = g .proper .proper (g .number) (g .inside) .whole in
         let (n, w) = some-whole rankOf nodes left 1 (rw (g .nodes-of) p) in
         let w₁ : taking k (wholes rankOf (drop (suc left) nodes)) ≡ exactly n = rw split at w in
-        let (d, a, b, c) = taken k (wholes rankOf (drop (suc left) nodes)) n w₁ in
-        let z : d ≡ size (m .made) = cc (s .whole) in
-        (n, w, rw z at b, rw z at c)
+        let t = taken k n (wholes rankOf (drop (suc left) nodes)) w₁ in
+        let was : exactly (t .trees) ≡ exactly (size (m .made)) = sym (t .was) ∙ s .whole in
+        let z : t .trees ≡ size (m .made) = cc in
+        (n, w, rw z at (t .enough), rw z at (t .left))
 
     enough : k ≤ size (m .made)
     enough = trees .2
@@ -170,7 +147,7 @@ module _ {table₀ space₀ : List ℕ} {free₀ : Free} {alphabet ranks roots n
     named : T (allowed alphabet (g .number) (ruleRank (g .rules) (g .number)) (name f))
     named =
         let p = g .proper .proper (g .number) (g .inside) .allowed in
-        all-at (λ n. allowed alphabet (g .number) (ruleRank (g .rules) (g .number)) (name n)) nodes (rw (g .nodes-of) p) left (omega (arith, s .upto))
+        all-at (λ n. allowed alphabet (g .number) (ruleRank (g .rules) (g .number)) (name n)) nodes 0 (rw (g .nodes-of) p) left (omega (arith, s .upto))
 
     few-rules : g .number < mostRules
     few-rules = omega (arith, g .inside, g .proper .few)
@@ -181,13 +158,7 @@ module _ {table₀ space₀ : List ℕ} {free₀ : Free} {alphabet ranks roots n
     -- its rank by the known ranks
     pub node-rank : nameRank alphabet (ruledBy ranks) (name f) ≡ k
     unfolding rankIn
-    node-rank = go (name f) named
-      where
-        go : (x : Name) → T (allowed alphabet (g .number) (ruleRank (g .rules) (g .number)) x) → nameRank alphabet (ruledBy ranks) x ≡ nameRank alphabet (g .rules) x
-        go (terminal a) h = refl
-        go (nonterminal r) h = rank-known ranks r ∙ g .known .rank r (ltb→lt r (g .number) h)
-        go (parameter j) h = refl
-        go nothing h = refl
+    node-rank = node.rank-lower alphabet ranks (g .rules) (g .number) (ruleRank (g .rules) (g .number)) (g .known .rank) (name f) named
 
     rule-rank : (r : ℕ) → r < g .number → ruleRank (g .rules) r ≤ 4
     rule-rank r h = g .proper .proper r (omega (arith, g .inside)) .rank
@@ -205,8 +176,8 @@ module _ {table₀ space₀ : List ℕ} {free₀ : Free} {alphabet ranks roots n
     -- there is room for what the node makes
     room-here : Room (adds (name f)) (1 + 3 * k) table space free
     room-here = record {
-      fits = omega (arith, g .room .fits, s .grown .few-rules, s .grown .long, bound-split, sum-later adds left nodes);
-      numbers = omega (arith, g .room .numbers, s .grown .few-rules, bound-split, sum-later adds left nodes);
+      fits = omega (arith, g .room .fits, s .grown .few-rules, s .grown .long, bound-split, sum-over-drop adds left nodes);
+      numbers = omega (arith, g .room .numbers, s .grown .few-rules, bound-split, sum-over-drop adds left nodes);
       all = s .grown .all ∙ g .room .all;
       left = omega (arith, g .room .left, s .few-cells, s .upto, enough);
     }

@@ -1,0 +1,4 @@
+pub mod Parameters
+pub mod Changed
+pub mod StrictScan
+pub mod StrictLaw
