@@ -99,7 +99,7 @@ module _ (form : List ℕ) {alphabet body : List ℕ} {count : ℕ} (head-room :
         ext-getD 0 (drop n form₂) (drop n form) (length-drop n form₂ ∙ rw long₂ (sym (length-drop n form)))
         (λ k l. getD-drop n form₂ k 0 ∙ behind k ∙ sym (getD-drop n form k 0))
 
-    pub form-written : FormWritten alphabet grammar (formLength (w .count .0)) form₂ form
+    pub form-written : FormWritten alphabet grammar (madeForm alphabet grammar) (formLength (w .count .0)) form₂ form
     form-written =
         let b = made-bytes alphabet grammar (alphabet-passed alphabet (g .alphabet)) (g .proper) (g .few) in
         let long : n ≡ length (madeForm alphabet grammar) = sym (length-take-le n form₂ (omega (arith, long₂, fits))) ∙ ap length bytes in

@@ -1,3 +1,4 @@
 pub mod Finishing
+pub mod Cleaned
 pub mod SheetRead
 pub mod Formed

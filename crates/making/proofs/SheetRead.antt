@@ -14,7 +14,9 @@ use Rattle.terms.specs.Calls.{lentAfter, rulesAsked, makingRefusal}
 use Rattle.terms.proofs.Sheet.Bodies.{Joined, joined}
 use Rattle.terms.proofs.Sheet.Grammar.{rules-passed}
 use Rattle.terms.proofs.Sheet.Passed.{SheetPassed, sheet-passed}
+use Rattle.skeletons.specs.Form.{madeForm}
 use Rattle.skeletons.proofs.Result.{bound-linear}
+use Rattle.cleaning_terms.specs.Cleaning.{cleaned}
 use Rattle.sheets.proofs.Asked.{asked-small}
 use Rattle.sheets.specs.Sheet.{layoutOf, sheetReading}
 use Rattle.sheets.specs.declared.sheet.Layout.{Layout}
@@ -101,8 +103,9 @@ module _ {s : List ℕ} {l : Layout} (r : SheetRead s l) where
         },
       )
 
-  -- a form of the parts is a form of the sheet
-  pub sheet-made : {xs ys : List ℕ} {n : ℕ} {exit entry : List ℕ} → xs ≡ alphabetOf s → ys ≡ body s 1 → FormWritten xs (rulesBody ys .rules) n exit entry → FormWritten (alphabetOf s) (rulesOf s) n exit entry
+  -- a form of the cleaned parts is the form of the sheet
+  pub sheet-made : {xs ys : List ℕ} {n : ℕ} {exit entry : List ℕ} → xs ≡ alphabetOf s → ys ≡ body s 1
+      → FormWritten xs (rulesBody ys .rules) (madeForm xs (cleaned xs (rulesBody ys .rules))) n exit entry → FormWritten (alphabetOf s) (rulesOf s) (formOf s) n exit entry
   unfolding rulesOf
   sheet-made a b w = rw (a, b) at w
 
@@ -117,5 +120,5 @@ module _ (s entry : List ℕ) where
   none-made zero e h = absurd (omega arith)
   none-made (suc k) e h = (ap refused e, (refl, λ z. absurd (omega arith)))
 
-  pub form-made : {n : ℕ} {refusal : ℕ} {exit : List ℕ} → 0 ≡ refusal → FormWritten (alphabetOf s) (rulesOf s) n exit entry → Answered refusal (answered n) exit
+  pub form-made : {n : ℕ} {refusal : ℕ} {exit : List ℕ} → 0 ≡ refusal → FormWritten (alphabetOf s) (rulesOf s) (formOf s) n exit entry → Answered refusal (answered n) exit
   form-made e w = rw (← e) (ap answered (w .long), (w .bytes, λ z. record { holds = w .holds; within = omega (arith, w .long, w .within) }))

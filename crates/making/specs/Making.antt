@@ -10,10 +10,11 @@ use Rattle.terms.specs.Sheet.{alphabetOf, rulesOf}
 use Rattle.terms.specs.Answer.{Answer, answer}
 use Rattle.terms.specs.Calls.{lentAfter, rulesFor, makingRefusal}
 use Rattle.skeletons.specs.Form.{madeForm}
+use Rattle.cleaning_terms.specs.Cleaning.{cleaned}
 
--- the form that is made of a sheet: its bytes depend on the sheet alone (01 One-hole form)
+-- the form that is made of a sheet, of its cleaned rules: its bytes depend on the sheet alone (01 One-hole form, 02 R-3)
 abbrev pub formOf : List ℕ → List ℕ
-formOf sheet = madeForm (alphabetOf sheet) (rulesOf sheet)
+formOf sheet = madeForm (alphabetOf sheet) (cleaned (alphabetOf sheet) (rulesOf sheet))
 
 -- the lent slice after form making: the form, and then its later bytes (01 One-hole form)
 abbrev pub formLeft : List ℕ → List ℕ → List ℕ

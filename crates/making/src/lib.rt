@@ -1,10 +1,13 @@
 // Making a one-hole form from a sheet.
 
 use checks::limits::CONTENTS;
+use cleaning::clean::LONGEST_BODY;
+use cleaning::clean::clean;
 use form_bytes::layout::HEAD;
 use form_bytes::layout::RULE;
 use form_writing::write::write_head;
 use right_sides::rules::make_rules;
+use rule_parameters::strict::is_strict;
 use sheets::sheet::Layout;
 use sheets::sheet::Reading;
 use sheets::sheet::read_sheet;
@@ -16,6 +19,8 @@ ghost use Rattle.terms.specs.FormBytes.{headLength, tableOf};
 ghost use Rattle.terms.specs.Answer.{answer, answerOfLength};
 ghost use Rattle.terms.specs.Calls.{makingRefusal};
 ghost use Rattle.terms.specs.Sheet.{alphabetOf, rulesBody, rulesOf};
+ghost use Rattle.skeletons.specs.Form.{madeForm};
+ghost use Rattle.cleaning_terms.specs.Cleaning.{cleaned};
 ghost use Rattle.right_sides.specs.Rules.{Grammar};
 ghost use Rattle.making.specs.Making.{formOf, formLeft, FormMade};
 ghost use Rattle.making.specs.Private.Read.{ReadWithRoom, FormWritten};
@@ -23,7 +28,7 @@ ghost use Rattle.making.specs.Private.Read.{ReadWithRoom, FormWritten};
 // The form of the rules of a body, whose length is the answer; later bytes are kept.
 fn write_form(form: &mut [u8], alphabet: &[u8], body: &[u8], rules: usize) -> usize
     requires { ⌜ (headLength ≤ length (now form)) × Grammar (tableOf (now form)) (now alphabet) (now body) rules ⌝ }
-    ensures { λ r. ⌜ FormWritten (now (alphabet .entry)) (rulesBody (now (body .entry)) .rules) r (now (form .exit)) (now (form .entry)) ⌝ }
+    ensures { λ r. ⌜ FormWritten (now (alphabet .entry)) (rulesBody (now (body .entry)) .rules) (madeForm (now (alphabet .entry)) (rulesBody (now (body .entry)) .rules)) r (now (form .exit)) (now (form .entry)) ⌝ }
 {
     let made = make_rules(&mut form[HEAD..], alphabet, body, rules);
     let count = made.count.0 as usize;
@@ -32,15 +37,29 @@ fn write_form(form: &mut [u8], alphabet: &[u8], body: &[u8], rules: usize) -> us
     HEAD + RULE * count
 }
 
+// The form of the cleaned rules of a body, whose length is the answer; later bytes are kept. Rules that pass the test of `is_strict` are cleaned already, and
+// their form is made of the body itself.
+fn write_cleaned(form: &mut [u8], alphabet: &[u8], body: &[u8], rules: usize) -> usize
+    requires { ⌜ (headLength ≤ length (now form)) × Grammar (tableOf (now form)) (now alphabet) (now body) rules ⌝ }
+    ensures { λ r. ⌜ FormWritten (now (alphabet .entry)) (rulesBody (now (body .entry)) .rules) (madeForm (now (alphabet .entry)) (cleaned (now (alphabet .entry)) (rulesBody (now (body .entry)) .rules))) r (now (form .exit)) (now (form .entry)) ⌝ }
+{
+    if is_strict(body, rules) {
+        return write_form(form, alphabet, body, rules);
+    }
+    let mut cleaned = [0u8; LONGEST_BODY];
+    let end = clean(alphabet, body, rules, &mut cleaned);
+    write_form(form, alphabet, &cleaned[..end], rules)
+}
+
 // A form of a sheet that was read, into a slice with room for it: the answer is its length, and later bytes are kept.
 pub fn make_read(sheet: &[u8], layout: Layout, form: &mut [u8]) -> usize
     requires { ⌜ ReadWithRoom (now sheet) layout (length (now form)) ⌝ }
-    ensures { λ r. ⌜ FormWritten (alphabetOf (now (sheet .entry))) (rulesOf (now (sheet .entry))) r (now (form .exit)) (now (form .entry)) ⌝ }
+    ensures { λ r. ⌜ FormWritten (alphabetOf (now (sheet .entry))) (rulesOf (now (sheet .entry))) (formOf (now (sheet .entry))) r (now (form .exit)) (now (form .entry)) ⌝ }
 {
     let rules = CONTENTS + layout.terminals;
     let automaton = layout.automaton;
     let count = layout.rules;
-    write_form(
+    write_cleaned(
         form,
         &sheet[CONTENTS..rules],
         &sheet[rules..automaton],

@@ -75,7 +75,7 @@ module _ {s : List ℕ} {l : Layout} (read : SheetRead s l) where
   walked = walk-answers s (read .passed)
 
   -- and its form is written
-  module _ {n : ℕ} {exit entry : List ℕ} (w : FormWritten (alphabetOf s) (rulesOf s) n exit entry) where
+  module _ {n : ℕ} {exit entry : List ℕ} (w : FormWritten (alphabetOf s) (rulesOf s) (formOf s) n exit entry) where
     formed : FormOfSheet s (formOf s)
     formed = form-of s (w .holds)
 

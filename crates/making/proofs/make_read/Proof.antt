@@ -12,26 +12,26 @@ known c = sheet-read _ _ (c .before .before .before .pre .read)
 add-rules : tie.Need-add-rules
 add-rules c = omega (arith, parts-there (known c), c .before .before .before .good)
 
-sub-write-form : tie.Need-sub-write-form
-sub-write-form c = search needs
+sub-write-cleaned : tie.Need-sub-write-cleaned
+sub-write-cleaned c = search needs
 
-part-write-form-start : tie.Need-part-write-form-start
-part-write-form-start c = search needs
+part-write-cleaned-start : tie.Need-part-write-cleaned-start
+part-write-cleaned-start c = search needs
 
-part-write-form-end : tie.Need-part-write-form-end
-part-write-form-end c = omega (arith, parts-there (known (c .before)))
+part-write-cleaned-end : tie.Need-part-write-cleaned-end
+part-write-cleaned-end c = omega (arith, parts-there (known (c .before)))
 
-sub-write-form-2 : tie.Need-sub-write-form-2
-sub-write-form-2 c = omega (arith, parts-there (known (c .before .before)))
+sub-write-cleaned-2 : tie.Need-sub-write-cleaned-2
+sub-write-cleaned-2 c = omega (arith, parts-there (known (c .before .before)))
 
-part-write-form-start-2 : tie.Need-part-write-form-start-2
-part-write-form-start-2 c = omega (arith, parts-there (known (c .before .before)))
+part-write-cleaned-start-2 : tie.Need-part-write-cleaned-start-2
+part-write-cleaned-start-2 c = omega (arith, parts-there (known (c .before .before)))
 
-part-write-form-end-2 : tie.Need-part-write-form-end-2
-part-write-form-end-2 c = omega (arith, parts-there (known (c .before .before)))
+part-write-cleaned-end-2 : tie.Need-part-write-cleaned-end-2
+part-write-cleaned-end-2 c = omega (arith, parts-there (known (c .before .before)))
 
-write-form-requires : tie.Need-write-form-requires
-write-form-requires c κs =
+write-cleaned-requires : tie.Need-write-cleaned-requires
+write-cleaned-requires c κs =
     let struct = c .before .before .before in
     let start = struct .before .before .before in
     let read = known struct in
@@ -44,19 +44,19 @@ returns : tie.Need-returns
 returns c =
     let call = c .before .before in
     let read = known (call .before .before .before .before) in
-    sheet-made read (alphabet-part read) (rules-part read) (call .write-form .ensures)
+    sheet-made read (alphabet-part read) (rules-part read) (call .write-cleaned .ensures)
 
 pub make-read-spec : {M : Type 1} → statement M
 make-read-spec =
     tie.close
     (tie.spec
     add-rules
-    sub-write-form
-    part-write-form-start
-    part-write-form-end
-    sub-write-form-2
-    part-write-form-start-2
-    part-write-form-end-2
-    write-form-requires
+    sub-write-cleaned
+    part-write-cleaned-start
+    part-write-cleaned-end
+    sub-write-cleaned-2
+    part-write-cleaned-start-2
+    part-write-cleaned-end-2
+    write-cleaned-requires
     same-length
     returns)

@@ -6,7 +6,6 @@ use lib.ListN.{length}
 use Rattle.terms.specs.Grammar.{Rule}
 use Rattle.terms.specs.FormBytes.{formLength}
 use Rattle.terms.specs.Calls.{lentAfter}
-use Rattle.skeletons.specs.Form.{madeForm}
 use Rattle.terms.specs.Answer.{answered}
 use Rattle.sheets.specs.Sheet.{sheetReading}
 use Rattle.sheets.specs.declared.sheet.Layout.{Layout}
@@ -17,9 +16,9 @@ pub record ReadWithRoom (sheet : List ℕ) (layout : Layout) (room : ℕ) : Type
   pub read : sheetReading sheet ≡ answered layout
   pub fits : formLength (layout .asked) ≤ room
 
--- the form that is made of a grammar is written, so many bytes, and the later ones are kept (01 One-hole form)
-pub record FormWritten (alphabet : List ℕ) (grammar : List Rule) (n : ℕ) (exit entry : List ℕ) : Type 0 where
-  pub long : n ≡ length (madeForm alphabet grammar)
-  pub bytes : exit ≡ lentAfter 0 (madeForm alphabet grammar) entry
-  pub holds : FormHolds alphabet grammar (madeForm alphabet grammar)
+-- a form of a grammar is written, so many bytes, and the later ones are kept (01 One-hole form)
+pub record FormWritten (alphabet : List ℕ) (grammar : List Rule) (form : List ℕ) (n : ℕ) (exit entry : List ℕ) : Type 0 where
+  pub long : n ≡ length form
+  pub bytes : exit ≡ lentAfter 0 form entry
+  pub holds : FormHolds alphabet grammar form
   pub within : n ≤ length entry
