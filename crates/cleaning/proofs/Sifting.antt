@@ -18,7 +18,7 @@ use Rattle.terms.proofs.Tree.Whole.{taken}
 use Rattle.nodes.specs.Nodes.{ruledBy, HasRank}
 use Rattle.nodes.proofs.Node.{has-rank, rank-lower}
 use Rattle.cleaning_terms.specs.Cleaning.{lone, stands, present, keeps, stays, sift, siftedRules, ruleSifted}
-use Rattle.cleaning_terms.proofs.Sifted.{sifted-at}
+use Rattle.cleaning_terms.proofs.Sifted.{sifted-at, sifted-rank}
 use Rattle.cleaning_terms.proofs.Turn.{childFlags, length-children, sift-turn, flags-next, flags-few}
 use Rattle.cleaning.specs.Sifting.{CanKeep, childKept, nodeStays, ChildrenFlagged, Side, keptNodes}
 
@@ -87,13 +87,7 @@ module _ {alphabet ranks : List ℕ} {flags₀ alone : List Bool} {nodes : List 
 
     same-rank : rankIn alphabet lower m ≡ k
     unfolding rankIn
-    same-rank = go (name m) named
-      where
-        go : (x : Name) → T (allowed alphabet (g .number) (ruleRank (g .rules) (g .number)) x) → nameRank alphabet lower x ≡ nameRank alphabet (g .rules) x
-        go (terminal f) h = refl
-        go (nonterminal r) h = ap (λ (q : Rule). q .rank) (sifted-rule (ltb→lt r (g .number) h))
-        go (parameter j) h = refl
-        go nothing h = refl
+    same-rank = sifted-rank alphabet (g .rules) (g .number) (name m) named
 
     -- the flags of its children can be read
     pub can-keep : (j : ℕ) → j < k → CanKeep (name m) j
@@ -184,9 +178,6 @@ module _ {alphabet ranks : List ℕ} {flags₀ alone : List Bool} {nodes : List 
         omega (arith, left-length, length-drop (suc at) nodes, g .few, some-flag)
 
     module _ {low′ : ℕ} (is : low′ ≡ low + 1 - k) {flags′ : List Bool} (d : ChildrenFlagged low′ flags₀ flag (name m) k flags flags′) where
-      front : List Bool
-      front = childFlags alphabet lower flag m
-
       flags-left : drop low′ flags′ ≡ left
       flags-left =
           let size : length (drop low′ flags′) ≡ length left = omega (arith, length-drop low′ flags′, d .long, s .all, left-length, rank-fits, some-flag) in

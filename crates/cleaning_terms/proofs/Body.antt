@@ -1,15 +1,11 @@
 -- The rules body of a cleaned grammar, rule by rule.
-use mathlib.Core.Path.{_≡_, refl, _∙_, ap}
-use mathlib.Core.List.{List, [], _∷_, _++_, map}
+use mathlib.Core.Path.{_≡_, _∙_, ap}
+use mathlib.Core.List.{List, [], _∷_, _++_, map, map-append}
 use Prim.Native.Nat.{ℕ, suc}
 use Rattle.terms.specs.Grammar.{Rule}
 use Rattle.terms.specs.Sheet.{writtenRule, writtenRules}
 use Rattle.terms.proofs.Sheet.Rules.{rules-append}
 use Rattle.cleaning_terms.specs.Cleaning.{siftedRules, renumbered, ruleSifted}
-
-map-next : (f : Rule → Rule) (rs : List Rule) (r : Rule) → map f (rs ++ (r ∷ [])) ≡ map f rs ++ (f r ∷ [])
-map-next f [] r = refl
-map-next f (s ∷ rs) r = ap (λ (l : List Rule). f s ∷ l) (map-next f rs r)
 
 module _ (alphabet : List ℕ) (rules : List Rule) where
   -- the body of the first k rules, cleaned
@@ -22,4 +18,4 @@ module _ (alphabet : List ℕ) (rules : List Rule) where
   body-next k =
       let sifted = siftedRules alphabet rules k in
       let r = ruleSifted alphabet rules k in
-      ap writtenRules (map-next renumbered sifted r) ∙ rules-append (map renumbered sifted) (renumbered r)
+      ap writtenRules (map-append renumbered sifted (r ∷ [])) ∙ rules-append (map renumbered sifted) (renumbered r)

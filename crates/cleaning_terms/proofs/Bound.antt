@@ -2,25 +2,17 @@
 use mathlib.Core.Path.{ap}
 use mathlib.Core.Bool.{Bool, true}
 use mathlib.Core.List.{List, [], _∷_}
-use Prim.Native.Nat.{ℕ, zero, suc, _≤_, _<_}
+use Prim.Native.Nat.{ℕ, _≤_, _<_}
 use native.Mathlib.Omega.{arith}
 use lib.ListN.{length, length-map}
 use Rattle.terms.specs.Grammar.{Name, terminal, nonterminal, parameter, nothing, name, Rule, ruleAt, ruleRank, sumOver, sumRules, nodeCount}
 use Rattle.terms.specs.Form.{share, formBound}
-use Rattle.terms.proofs.Grammar.Sum.{sumBelow, sum-rules}
+use Rattle.terms.proofs.Grammar.Sum.{sum-le, sum-rules}
 use Rattle.cleaning_terms.specs.Cleaning.{present, sift, siftedRules, numbered, renumbered, cleaned, ruleSifted}
-use Rattle.cleaning_terms.proofs.Each.{Each, sum-over-image-le}
+use Rattle.cleaning_terms.proofs.Each.{sum-over-image-le}
 use Rattle.cleaning_terms.proofs.Names.{renamed, name-numbered}
 use Rattle.cleaning_terms.proofs.Sift.{sift-length, sift-sum}
 use Rattle.cleaning_terms.proofs.Sifted.{cleaned-length, cleaned-at, cleaned-rank-le}
-
-sum-le : (n : ℕ) (g h : ℕ → ℕ) → ((i : ℕ) → i < n → g i ≤ h i) → sumBelow n g ≤ sumBelow n h
-sum-le zero g h e = omega arith
-sum-le (suc n) g h e = omega (arith, sum-le n g h (λ i l. e i (omega arith)), e n (omega arith))
-
-each-unit : (ms : List ℕ) → Each (λ m. Unit {0}) ms
-each-unit [] = tt
-each-unit (m ∷ ms) = (tt, each-unit ms)
 
 share-renamed : (g h : ℕ → ℕ) → ((r : ℕ) → g r ≤ h r) → (flags : List Bool) (x : Name) → share g (renamed flags x) ≤ share h x
 share-renamed g h le flags (terminal f) = omega arith
@@ -55,12 +47,12 @@ module _ (alphabet : List ℕ) (rules : List Rule) where
       let k = share (ruleRank rules) in
       let flags = present (ruleSifted alphabet rules i) in
       let ms = sift alphabet (siftedRules alphabet rules i) (true ∷ []) (ruleAt rules i .nodes) in
-      let le : (m : ℕ) → Unit {0} → g (name (numbered flags m (name m))) ≤ k (name m) = λ m u.
+      let le : (m : ℕ) → g (name (numbered flags m (name m))) ≤ k (name m) = λ m.
       rw (name-numbered flags m) (share-renamed (ruleRank (cleaned alphabet rules)) (ruleRank rules) (cleaned-rank-le alphabet rules) flags (name m)) in
       omega (
         arith,
         ap (λ (r : Rule). sumOver g (r .nodes)) (cleaned-at alphabet rules i h),
-        sum-over-image-le g k (λ m. numbered flags m (name m)) le ms (each-unit ms),
+        sum-over-image-le g k (λ m. numbered flags m (name m)) le ms,
         sift-sum alphabet (siftedRules alphabet rules i) k (true ∷ []) (ruleAt rules i .nodes),
       )
 

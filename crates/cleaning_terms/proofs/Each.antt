@@ -49,16 +49,11 @@ map-each f g (m ∷ ms) e = ap₂ (λ n ns. n ∷ ns) (e .0) (map-each f g ms (e
 
 -- sums
 
-pub sum-over-image-le : {P : ℕ → Type 0} (g h : Name → ℕ) (f : ℕ → ℕ) → ((m : ℕ) → P m → g (name (f m)) ≤ h (name m)) → (ms : List ℕ) → Each P ms
-    → sumOver g (map f ms) ≤ sumOver h ms
-sum-over-image-le g h f le [] e = omega arith
-sum-over-image-le g h f le (m ∷ ms) e = omega (arith, le m (e .0), sum-over-image-le g h f le ms (e .1))
+pub sum-over-image-le : (g h : Name → ℕ) (f : ℕ → ℕ) → ((m : ℕ) → g (name (f m)) ≤ h (name m)) → (ms : List ℕ) → sumOver g (map f ms) ≤ sumOver h ms
+sum-over-image-le g h f le [] = omega arith
+sum-over-image-le g h f le (m ∷ ms) = omega (arith, le m, sum-over-image-le g h f le ms)
 
 pub sum-over-image : {P : ℕ → Type 0} (g h : Name → ℕ) (f : ℕ → ℕ) → ((m : ℕ) → P m → g (name (f m)) ≡ h (name m)) → (ms : List ℕ) → Each P ms
     → sumOver g (map f ms) ≡ sumOver h ms
 sum-over-image g h f eq [] e = refl
 sum-over-image g h f eq (m ∷ ms) e = omega (arith, eq m (e .0), sum-over-image g h f eq ms (e .1))
-
-pub sum-over-zero : {P : ℕ → Type 0} (g : Name → ℕ) → ((m : ℕ) → P m → g (name m) ≡ 0) → (ms : List ℕ) → Each P ms → sumOver g ms ≡ 0
-sum-over-zero g z [] e = refl
-sum-over-zero g z (m ∷ ms) e = omega (arith, z m (e .0), sum-over-zero g z ms (e .1))

@@ -107,7 +107,7 @@ flag-at (false ∷ bs) n h = let f = flag-at bs n h in record { place = suc (f .
 
 -- flags by a test
 
-pub trues-none : (n : ℕ) (p : ℕ → Bool) → ((k : ℕ) → k < n → p k ≡ false) → trues (tabulate n p) ≡ 0
+trues-none : (n : ℕ) (p : ℕ → Bool) → ((k : ℕ) → k < n → p k ≡ false) → trues (tabulate n p) ≡ 0
 unfolding trues tabulate
 trues-none zero p h = refl
 trues-none (suc n) p h = rw (h 0 (omega arith)) (trues-none n (λ k. p (suc k)) (λ k l. h (suc k) (omega arith)))
@@ -124,11 +124,11 @@ unfolding tabulate
 tabulate-all zero p h = refl
 tabulate-all (suc n) p h = rw (h 0 (omega arith)) (ap (λ (l : List Bool). true ∷ l) (tabulate-all n (λ k. p (suc k)) (λ k l. h (suc k) (omega arith))))
 
-pub take-replicate : (n j : ℕ) → j ≤ n → trues (take j (replicate n true)) ≡ j
+pub trues-take-replicate : (n j : ℕ) → j ≤ n → trues (take j (replicate n true)) ≡ j
 unfolding trues
-take-replicate n zero l = refl
-take-replicate zero (suc j) l = absurd (omega arith)
-take-replicate (suc n) (suc j) l = ap suc (take-replicate n j (omega arith))
+trues-take-replicate n zero l = refl
+trues-take-replicate zero (suc j) l = absurd (omega arith)
+trues-take-replicate (suc n) (suc j) l = ap suc (trues-take-replicate n j (omega arith))
 
 -- where a flag is true, there is one
 pub flag-inside : (bs : List Bool) (j : ℕ) → getD bs j false ≡ true → j < length bs

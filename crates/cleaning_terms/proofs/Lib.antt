@@ -9,6 +9,7 @@ pub mod Right
 pub mod Value
 pub mod Proper
 pub mod Same
+pub mod Used
 pub mod Presence
 pub mod Body
 pub mod Turn

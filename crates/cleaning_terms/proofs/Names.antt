@@ -1,13 +1,14 @@
 -- The bytes of parameters, and what a parameter's byte names after it has its new number.
-use mathlib.Core.Path.{_≡_, refl, ap}
+use mathlib.Core.Path.{_≡_, refl}
 use mathlib.Core.Bool.{Bool, true, false}
 use mathlib.Core.List.{List}
 use Prim.Native.Nat.{ℕ, _+_, _-_, _≤_, _<_}
 use native.Mathlib.Omega.{arith}
 use lib.Dec.{ltb}
 use lib.ListN.{take}
-use borrow.Author.Tests.{lt-ltb, le-ltb, ltb-true, ltb-false}
+use borrow.Author.Tests.{ltb-true, ltb-false}
 use Rattle.terms.specs.Grammar.{Name, terminal, nonterminal, parameter, nothing, nameOf, name}
+use Rattle.terms.proofs.Grammar.Name.{name-parameter}
 use Rattle.cleaning_terms.specs.Cleaning.{trues, numbered}
 use Rattle.cleaning_terms.proofs.Flags.{trues-take}
 
@@ -25,12 +26,6 @@ parameter-byte n j e = go (ltb n 0x20) (ltb n 0x40) (ltb n 0x80) (ltb n 0x84) (l
         let q : n - 0x80 ≡ j = cc in
         (omega arith, omega arith)
     go false false false false h k e = absurd (let z : _≡_ {A = ℕ} 0 1 = cc in omega arith)
-
-pub name-parameter : (j : ℕ) → j < 4 → name (0x80 + j) ≡ parameter j
-unfolding name
-name-parameter j h =
-    let n = 0x80 + j in
-    rw (le-ltb n 0x20 (omega arith), le-ltb n 0x40 (omega arith), le-ltb n 0x80 (omega arith), lt-ltb n 0x84 (omega arith)) (ap parameter (omega arith))
 
 abbrev pub renamed : List Bool → Name → Name
 renamed flags (terminal f) = terminal f

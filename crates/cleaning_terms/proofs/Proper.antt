@@ -9,14 +9,15 @@ use lib.Dec.{T, ltb→lt, lt→ltb}
 use lib.ListN.{length, getD, take}
 use borrow.Author.Tests.{ltb-true, eq-eqb, ne-eqb}
 use Rattle.terms.specs.Tree.{exactly, wholes}
-use Rattle.terms.specs.Grammar.{Name, terminal, nonterminal, parameter, nothing, name, Rule, ruleAt, ruleRank, rankIn, allowed, isParameter, anyParameter, sumOver, ProperRule, Proper}
+use Rattle.terms.specs.Grammar.{Name, terminal, nonterminal, parameter, nothing, name, Rule, ruleAt, ruleRank, rankIn, allowed, allAllowed, isParameter, anyParameter, sumOver, ProperRule, Proper}
 use Rattle.terms.proofs.Tabulate.{getD-tabulate}
 use Rattle.terms.proofs.Tree.Whole.{wholes-preorder}
+use Rattle.terms.proofs.Sheet.Grammar.{at-most-once}
 use Rattle.cleaning_terms.specs.Cleaning.{lone, stands, present, stays, siftedRules, trues, numbered, renumbered, cleaned, ruleSifted}
 use Rattle.cleaning_terms.specs.Clean.{callsLone, Clean}
 use Rattle.cleaning_terms.proofs.Flags.{trues-below, trues-less, flag-at, flag-inside, length-present}
 use Rattle.cleaning_terms.proofs.Names.{renamed, name-numbered}
-use Rattle.cleaning_terms.proofs.Each.{Each, each-image, all-of-each, sum-over-image, sum-over-zero}
+use Rattle.cleaning_terms.proofs.Each.{Each, each-image, all-of-each, sum-over-image}
 use Rattle.cleaning_terms.proofs.Sift.{sift-sum}
 use Rattle.cleaning_terms.proofs.Sifted.{sifted-at, cleaned-length, cleaned-at, cleaned-rank, cleaned-rank-le}
 use Rattle.cleaning_terms.proofs.Right.{Held, flags, held, number, fresh, fresh-ranked, fresh-order}
@@ -49,12 +50,6 @@ allowed-renamed alphabet i n bs (nonterminal r) k a = a
 allowed-renamed alphabet i n bs (parameter q) k a = lt→ltb (trues (take q bs)) (trues bs) (trues-below bs q (k q refl))
 allowed-renamed alphabet i n bs nothing k a = a
 
-above-none : (alphabet : List ℕ) (i n j : ℕ) → n ≤ j → (x : Name) → T (allowed alphabet i n x) → isParameter j x ≡ 0
-above-none alphabet i n j h (terminal f) a = refl
-above-none alphabet i n j h (nonterminal r) a = refl
-above-none alphabet i n j h (parameter k) a = rw (ne-eqb j k (λ e. omega (arith, ltb→lt k n a)))
-above-none alphabet i n j h nothing a = refl
-
 any-renamed : (bs : List Bool) (x : Name) → anyParameter (renamed bs x) ≡ anyParameter x
 any-renamed bs (terminal f) = refl
 any-renamed bs (nonterminal r) = refl
@@ -76,14 +71,14 @@ module _ (alphabet : List ℕ) (rules : List Rule) (p : Proper alphabet rules) w
   abbrev nodes : ℕ → List ℕ
   nodes i = ruleSifted alphabet rules i .nodes
 
-  abbrev kind : ℕ → List Bool
-  kind i = flags alphabet rules p i
+  abbrev marks : ℕ → List Bool
+  marks i = flags alphabet rules p i
 
   -- a parameter that is present stands once among the nodes that are kept
-  present-once : (i : ℕ) → i < length rules → (j : ℕ) → getD (kind i) j false ≡ true → sumOver (isParameter j) (nodes i) ≡ 1
+  present-once : (i : ℕ) → i < length rules → (j : ℕ) → getD (marks i) j false ≡ true → sumOver (isParameter j) (nodes i) ≡ 1
   unfolding present
   present-once i h j e =
-      let l : j < ruleRank rules i = omega (arith, flag-inside (kind i) j e, length-present (ruleSifted alphabet rules i)) in
+      let l : j < ruleRank rules i = omega (arith, flag-inside (marks i) j e, length-present (ruleSifted alphabet rules i)) in
       let s = ltb-true 0 (sumOver (isParameter j) (nodes i)) (sym (getD-tabulate (ruleRank rules i) (stands (nodes i)) false j l) ∙ e) in
       omega (arith, s, sift-sum alphabet (sifted i) (isParameter j) (true ∷ []) (ruleAt rules i .nodes), p .proper i h .once j)
 
@@ -91,29 +86,24 @@ module _ (alphabet : List ℕ) (rules : List Rule) (p : Proper alphabet rules) w
   unfolding renumbered
   clean-nodes i h = ap (λ (r : Rule). r .nodes) (cleaned-at alphabet rules i h)
 
-  pub exact : (i : ℕ) → i < length rules → (j : ℕ) → j < ruleRank clean i → sumOver (isParameter j) (ruleAt clean i .nodes) ≡ 1
+  exact : (i : ℕ) → i < length rules → (j : ℕ) → j < ruleRank clean i → sumOver (isParameter j) (ruleAt clean i .nodes) ≡ 1
   exact i h j l =
-      let f = flag-at (kind i) j (omega (arith, cleaned-rank alphabet rules i h)) in
+      let f = flag-at (marks i) j (omega (arith, cleaned-rank alphabet rules i h)) in
       let is : (m : ℕ) → Held alphabet rules i m → isParameter j (name (number alphabet rules p i m)) ≡ isParameter (f .place) (name m) = λ m q.
-      ap (isParameter j) (name-numbered (kind i) m)
-      ∙ subst (λ k. isParameter k (renamed (kind i) (name m)) ≡ isParameter (f .place) (name m)) (f .before) (is-renamed (kind i) (f .place) (f .holds) (name m) (q .marked)) in
+      ap (isParameter j) (name-numbered (marks i) m)
+      ∙ subst (λ k. isParameter k (renamed (marks i) (name m)) ≡ isParameter (f .place) (name m)) (f .before) (is-renamed (marks i) (f .place) (f .holds) (name m) (q .marked)) in
       ap (sumOver (isParameter j)) (clean-nodes i h)
       ∙ sum-over-image (isParameter j) (isParameter (f .place)) (number alphabet rules p i) is (nodes i) (held alphabet rules p i h) ∙ present-once i h (f .place) (f .holds)
 
   clean-each : (i : ℕ) → i < length rules → Each (λ m. T (allowed alphabet i (ruleRank clean i) (name m))) (ruleAt clean i .nodes)
   clean-each i h =
       rw (clean-nodes i h, cleaned-rank alphabet rules i h)
-      (each-image (Held alphabet rules i) (λ m. T (allowed alphabet i (trues (kind i)) (name m))) (number alphabet rules p i)
-      (λ m q. rw (name-numbered (kind i) m) (allowed-renamed alphabet i (ruleRank rules i) (kind i) (name m) (q .marked) (q .allows))) (nodes i)
+      (each-image (Held alphabet rules i) (λ m. T (allowed alphabet i (trues (marks i)) (name m))) (number alphabet rules p i)
+      (λ m q. rw (name-numbered (marks i) m) (allowed-renamed alphabet i (ruleRank rules i) (marks i) (name m) (q .marked) (q .allows))) (nodes i)
       (held alphabet rules p i h))
 
-  once : (i : ℕ) → i < length rules → (j : ℕ) → sumOver (isParameter j) (ruleAt clean i .nodes) ≤ 1
-  once i h j = go (decLt j (ruleRank clean i))
-    where
-      go : Dec (j < ruleRank clean i) → sumOver (isParameter j) (ruleAt clean i .nodes) ≤ 1
-      go (yes l) = omega (arith, exact i h j l)
-      go (no l) =
-          omega (arith, sum-over-zero (isParameter j) (λ m a. above-none alphabet i (ruleRank clean i) j (omega arith) (name m) a) (ruleAt clean i .nodes) (clean-each i h))
+  clean-allowed : (i : ℕ) → i < length rules → T (allAllowed alphabet i (ruleRank clean i) (ruleAt clean i .nodes))
+  clean-allowed i h = all-of-each (λ m. allowed alphabet i (ruleRank clean i) (name m)) (ruleAt clean i .nodes) (clean-each i h)
 
   clean-whole : (i : ℕ) → i < length rules → wholes (rankIn alphabet clean) (ruleAt clean i .nodes) ≡ exactly 1
   clean-whole i h =
@@ -123,8 +113,8 @@ module _ (alphabet : List ℕ) (rules : List Rule) (p : Proper alphabet rules) w
   proper-rule i h = record {
     rank = omega (arith, cleaned-rank-le alphabet rules i, p .proper i h .rank);
     whole = clean-whole i h;
-    allowed = all-of-each (λ m. allowed alphabet i (ruleRank clean i) (name m)) (ruleAt clean i .nodes) (clean-each i h);
-    once = once i h;
+    allowed = clean-allowed i h;
+    once = λ j. at-most-once alphabet i (ruleRank clean i) j (ruleAt clean i .nodes) (clean-allowed i h) (λ l. omega (arith, exact i h j l));
   }
 
   pub cleaned-proper : Proper alphabet clean
@@ -140,13 +130,13 @@ module _ (alphabet : List ℕ) (rules : List Rule) (p : Proper alphabet rules) w
   -- no rule that is called is a lone parameter
 
   stays-clean : (i : ℕ) → i ≤ length rules → (x : Name) → T (allowed alphabet i (ruleRank rules i) x) → T (stays (sifted i) x)
-      → T (not (callsLone clean (renamed (kind i) x)))
+      → T (not (callsLone clean (renamed (marks i) x)))
   unfolding renumbered
   stays-clean i h (terminal f) a s = s
   stays-clean i h (nonterminal r) a s =
       let l = ltb→lt r i a in
       let c : lone (ruleAt clean r .nodes) ≡ lone (ruleAt (sifted i) r .nodes) =
-      ap lone (clean-nodes r (omega arith)) ∙ lone-numbered (kind r) (nodes r) ∙ ap (λ (q : Rule). lone (q .nodes)) (sym (sifted-at alphabet rules i r l)) in
+      ap lone (clean-nodes r (omega arith)) ∙ lone-numbered (marks r) (nodes r) ∙ ap (λ (q : Rule). lone (q .nodes)) (sym (sifted-at alphabet rules i r l)) in
       rw c s
   stays-clean i h (parameter j) a s = s
   stays-clean i h nothing a s = s
@@ -155,7 +145,7 @@ module _ (alphabet : List ℕ) (rules : List Rule) (p : Proper alphabet rules) w
   clean-calls i h =
       rw (clean-nodes i h)
       (each-image (Held alphabet rules i) (λ m. T (not (callsLone clean (name m)))) (number alphabet rules p i)
-      (λ m q. rw (name-numbered (kind i) m) (stays-clean i (omega arith) (name m) (q .allows) (q .stay))) (nodes i) (held alphabet rules p i h))
+      (λ m q. rw (name-numbered (marks i) m) (stays-clean i (omega arith) (name m) (q .allows) (q .stay))) (nodes i) (held alphabet rules p i h))
 
   pub cleaned-clean : Clean alphabet clean
   cleaned-clean = record {

@@ -10,16 +10,17 @@ use lib.ListN.{length, getD}
 use borrow.Author.Tests.{not-false, lt-ltb, le-ltb, eq-eqb, ne-eqb}
 use Rattle.terms.specs.Tree.{Tree, preorder, Ranked}
 use Rattle.terms.specs.Grammar.{Name, terminal, nonterminal, parameter, nothing, name, Rule, ruleAt, ruleRank, nameRank, rankIn, rightSide, allowed, isParameter, sumOver, Proper, anyParameter}
-use Rattle.terms.proofs.Test.{of-true}
+use Rattle.terms.proofs.Test.{is-true, of-true}
 use Rattle.terms.proofs.Tabulate.{getD-tabulate}
-use Rattle.terms.proofs.Tree.Whole.{ranked-tree, preorder-tree, tree-of-preorder}
+use Rattle.terms.proofs.Tree.Whole.{tree-of-preorder}
+use Rattle.terms.proofs.Grammar.Fine.{own-parameter, right-preorder, right-ranked}
 use Rattle.cleaning_terms.specs.Cleaning.{lone, stands, present, keeps, stays, sift, siftedRules, trues, numbered, renumbered, cleaned, ruleSifted}
 use Rattle.cleaning_terms.proofs.Flags.{trues-one, trues-replicate}
 use Rattle.cleaning_terms.proofs.Names.{renamed, name-numbered}
 use Rattle.cleaning_terms.proofs.Each.{Each, each-map, each-both, each-of-all}
 use Rattle.cleaning_terms.proofs.Sift.{sift-each}
 use Rattle.cleaning_terms.proofs.Trees.{Single, kept, sift-kept, ranked-kept, mapTree, preorder-map, ranked-map, ranked-same}
-use Rattle.cleaning_terms.proofs.Sifted.{sifted-at, sifted-past, cleaned-at, cleaned-rank}
+use Rattle.cleaning_terms.proofs.Sifted.{sifted-at, sifted-past, sifted-rank, cleaned-at, cleaned-rank}
 
 -- a parameter among the nodes stands there
 
@@ -62,9 +63,6 @@ alone (m ∷ []) e = go (name m) refl e
     go (parameter j) q h = record { byte = m; number = j; nodes = refl; names = q }
     go nothing q h = absurd (of-true false h)
 
-parameter-below : (alphabet : List ℕ) (i n j : ℕ) (x : Name) → x ≡ parameter j → T (allowed alphabet i n x) → j < n
-parameter-below alphabet i n j x e a = ltb→lt j n (subst (λ y. T (allowed alphabet i n y)) e a)
-
 -- what is known of a node m that rule i keeps
 pub record Held (alphabet : List ℕ) (rules : List Rule) (i m : ℕ) : Type 0 where
   pub allows : T (allowed alphabet i (ruleRank rules i) (name m))
@@ -99,7 +97,7 @@ module _ (alphabet : List ℕ) (rules : List Rule) (p : Proper alphabet rules) w
       (λ m q. record {
         allows = q .0 .0;
         stay = q .0 .1;
-        marked = λ j e. marked-by i j (parameter-below alphabet i (ruleRank rules i) j (name m) e (q .0 .0)) (q .1 j e);
+        marked = λ j e. marked-by i j (own-parameter alphabet i (ruleRank rules i) (name m) j (is-true _ (q .0 .0)) e) (q .1 j e);
       })
       (nodes i) (each-both B C (nodes i) b (stands-each (nodes i)))
 
@@ -110,7 +108,7 @@ module _ (alphabet : List ℕ) (rules : List Rule) (p : Proper alphabet rules) w
       let first : Each (Held alphabet rules r) (a .byte ∷ []) = subst (Each (Held alphabet rules r)) (a .nodes) (held r h) in
       subst (λ ms. trues (present (record { rank = ruleRank rules r; nodes = ms })) ≡ 1) (sym (a .nodes))
       (lone-one (ruleRank rules r) (a .byte) (a .number) (a .names)
-      (parameter-below alphabet r (ruleRank rules r) (a .number) (name (a .byte)) (a .names) (first .0 .allows)))
+      (own-parameter alphabet r (ruleRank rules r) (name (a .byte)) (a .number) (is-true _ (first .0 .allows)) (a .names)))
 
   pub single : (i : ℕ) → i ≤ length rules → Single (sifted i)
   single i h r e = go (decLt r i)
@@ -123,22 +121,12 @@ module _ (alphabet : List ℕ) (rules : List Rule) (p : Proper alphabet rules) w
 
   -- right sides
 
-  pub right-order : (i : ℕ) → i < length rules → preorder (right i) ≡ ruleAt rules i .nodes
-  unfolding rightSide
-  right-order i h = preorder-tree (rankIn alphabet rules) (ruleAt rules i .nodes) (p .proper i h .whole)
-
-  same-rank : (i m : ℕ) (x : Name) → T (allowed alphabet i (ruleRank rules i) x) → nameRank alphabet rules x ≡ nameRank alphabet (sifted i) x
-  same-rank i m (terminal f) a = refl
-  same-rank i m (nonterminal r) a = ap (λ (q : Rule). q .rank) (sym (sifted-at alphabet rules i r (ltb→lt r i a)))
-  same-rank i m (parameter j) a = refl
-  same-rank i m nothing a = refl
-
-  pub right-ranked : (i : ℕ) → i < length rules → Ranked (rankIn alphabet (sifted i)) (right i)
-  unfolding rightSide rankIn
-  right-ranked i h =
-      ranked-same (rankIn alphabet rules) (rankIn alphabet (sifted i)) (right i) (ranked-tree (rankIn alphabet rules) (ruleAt rules i .nodes) (p .proper i h .whole))
-      (subst (Each (λ m. rankIn alphabet rules m ≡ rankIn alphabet (sifted i) m)) (sym (right-order i h))
-      (each-map (λ m. T (allowed alphabet i (ruleRank rules i) (name m))) (λ m. rankIn alphabet rules m ≡ rankIn alphabet (sifted i) m) (λ m a. same-rank i m (name m) a) (ruleAt rules i .nodes)
+  pub sifted-ranked : (i : ℕ) → i < length rules → Ranked (rankIn alphabet (sifted i)) (right i)
+  unfolding rankIn
+  sifted-ranked i h =
+      ranked-same (rankIn alphabet rules) (rankIn alphabet (sifted i)) (right i) (right-ranked alphabet rules i (p .proper i h))
+      (subst (Each (λ m. rankIn alphabet rules m ≡ rankIn alphabet (sifted i) m)) (sym (right-preorder alphabet rules i (p .proper i h)))
+      (each-map (λ m. T (allowed alphabet i (ruleRank rules i) (name m))) (λ m. rankIn alphabet rules m ≡ rankIn alphabet (sifted i) m) (λ m a. sym (sifted-rank alphabet rules i (name m) a)) (ruleAt rules i .nodes)
       (each-of-all (λ m. allowed alphabet i (ruleRank rules i) (name m)) (ruleAt rules i .nodes) (p .proper i h .allowed))))
 
   -- the right side of rule i without what is dropped
@@ -146,7 +134,7 @@ module _ (alphabet : List ℕ) (rules : List Rule) (p : Proper alphabet rules) w
   rest i = kept alphabet (sifted i) (right i)
 
   pub rest-order : (i : ℕ) → i < length rules → preorder (rest i) ≡ nodes i
-  rest-order i h = sym (sift-kept alphabet (sifted i) (single i (omega arith)) (right i) (right-ranked i h)) ∙ ap (sift alphabet (sifted i) (true ∷ [])) (right-order i h)
+  rest-order i h = sym (sift-kept alphabet (sifted i) (single i (omega arith)) (right i) (sifted-ranked i h)) ∙ ap (sift alphabet (sifted i) (true ∷ [])) (right-preorder alphabet rules i (p .proper i h))
 
   -- and with the new numbers
   abbrev pub number : ℕ → ℕ → ℕ
@@ -171,7 +159,7 @@ module _ (alphabet : List ℕ) (rules : List Rule) (p : Proper alphabet rules) w
       let rank = rankIn alphabet (cleaned alphabet rules) in
       let P : ℕ → Type 0 = λ m. trues (keeps alphabet (sifted i) (name m)) ≡ rank (number i m) in
       ranked-map (number i) (λ m. trues (keeps alphabet (sifted i) (name m))) rank (rest i)
-      (ranked-kept alphabet (sifted i) (single i (omega arith)) (right i) (right-ranked i h))
+      (ranked-kept alphabet (sifted i) (single i (omega arith)) (right i) (sifted-ranked i h))
       (subst (Each P) (sym (rest-order i h))
       (each-map (Held alphabet rules i) P (λ m q. rw (name-numbered (flags i) m) (new-rank i (omega arith) (name m) (q .allows))) (nodes i) (held i h)))
 

@@ -1,7 +1,7 @@
 -- Where there is nothing to clean, cleaning changes nothing.
 use mathlib.Core.Path.{_≡_, refl, sym, _∙_, ap, ap₂, subst}
 use mathlib.Core.Bool.{true, false, not}
-use mathlib.Core.List.{List, [], _∷_, map}
+use mathlib.Core.List.{List, map, map-id}
 use Prim.Native.Nat.{ℕ, zero, suc, _<_}
 use native.Mathlib.Omega.{arith}
 use lib.Dec.{T, ltb→lt}
@@ -12,15 +12,15 @@ use Rattle.terms.specs.Test.{all}
 use Rattle.terms.specs.Tree.{Tree, Forest, node, none, more, preorder, preorders, Ranked, RankedAll}
 use Rattle.terms.specs.Grammar.{Name, terminal, nonterminal, parameter, nothing, name, Rule, ruleAt, ruleRank, rankIn, nameRank, rightSide, allowed, isParameter, sumOver, Proper}
 use Rattle.terms.proofs.Test.{is-true}
+use Rattle.terms.proofs.Grammar.Fine.{right-preorder}
 use Rattle.cleaning_terms.specs.Cleaning.{lone, stands, present, keeps, stays, siftedRules, trues, numbered, renumbered, cleaned, ruleSifted}
-use Rattle.cleaning_terms.specs.Clean.{callsLone, Clean}
-use Rattle.cleaning_terms.specs.Claims.{Strict}
-use Rattle.cleaning_terms.proofs.Flags.{chosen-all, trues-replicate, tabulate-all, take-replicate}
+use Rattle.cleaning_terms.specs.Clean.{callsLone, Clean, Strict}
+use Rattle.cleaning_terms.proofs.Flags.{chosen-all, trues-replicate, tabulate-all, trues-take-replicate}
 use Rattle.cleaning_terms.proofs.Names.{parameter-byte}
-use Rattle.cleaning_terms.proofs.Each.{Each, each-map, each-both, each-first, each-rest, each-of-all, all-of-each}
+use Rattle.cleaning_terms.proofs.Each.{Each, each-map, each-both, each-first, each-rest, each-of-all, all-of-each, map-each}
 use Rattle.cleaning_terms.proofs.Trees.{kept, kepts}
 use Rattle.cleaning_terms.proofs.Sifted.{empty, sifted-at, cleaned-length, cleaned-at}
-use Rattle.cleaning_terms.proofs.Right.{right-order, right-ranked, rest-order}
+use Rattle.cleaning_terms.proofs.Right.{sifted-ranked, rest-order}
 
 -- a node that stays, with all its children
 pub record Full (alphabet : List ℕ) (sifted : List Rule) (x : Name) : Type 0 where
@@ -34,7 +34,7 @@ module _ (alphabet : List ℕ) (sifted : List Rule) where
   mutual
     unfolding kept kepts Ranked RankedAll preorder preorders rankIn
 
-    pub kept-same : (t : Tree) → Ranked (rankIn alphabet sifted) t → AllFull (preorder t) → kept alphabet sifted t ≡ t
+    kept-same : (t : Tree) → Ranked (rankIn alphabet sifted) t → AllFull (preorder t) → kept alphabet sifted t ≡ t
     kept-same (node m ts) r e = rw (kepts-same ts (r .1) (e .1), e .0 .stay, e .0 .all, chosen-all (nameRank alphabet sifted (name m)) ts (r .0))
 
     kepts-same : (ts : Forest) → RankedAll (rankIn alphabet sifted) ts → AllFull (preorders ts) → kepts alphabet sifted ts ≡ ts
@@ -43,14 +43,10 @@ module _ (alphabet : List ℕ) (sifted : List Rule) where
         let P : ℕ → Type 0 = λ m. Full alphabet sifted (name m) in
         ap₂ more (kept-same t (r .0) (each-first P (preorder t) (preorders ts) e)) (kepts-same ts (r .1) (each-rest P (preorder t) (preorders ts) e))
 
-map-same : (f : ℕ → ℕ) (ms : List ℕ) → Each (λ m. f m ≡ m) ms → map f ms ≡ ms
-map-same f [] e = refl
-map-same f (m ∷ ms) e = ap₂ (λ n ns. n ∷ ns) (e .0) (map-same f ms (e .1))
-
 numbered-same : (alphabet : List ℕ) (i n m : ℕ) (x : Name) → name m ≡ x → T (allowed alphabet i n x) → numbered (replicate n true) m x ≡ m
 numbered-same alphabet i n m (terminal f) e a = refl
 numbered-same alphabet i n m (nonterminal r) e a = refl
-numbered-same alphabet i n m (parameter j) e a = omega (arith, take-replicate n j (omega (arith, ltb→lt j n a)), parameter-byte m j e .0)
+numbered-same alphabet i n m (parameter j) e a = omega (arith, trues-take-replicate n j (omega (arith, ltb→lt j n a)), parameter-byte m j e .0)
 numbered-same alphabet i n m nothing e a = refl
 
 module _ (alphabet : List ℕ) (rules : List Rule) (c : Clean alphabet rules) where
@@ -89,9 +85,9 @@ module _ (alphabet : List ℕ) (rules : List Rule) (c : Clean alphabet rules) wh
 
     same-nodes : ruleSifted alphabet rules i .nodes ≡ ruleAt rules i .nodes
     same-nodes =
-        let o = right-order alphabet rules p i h in
+        let o = right-preorder alphabet rules i (p .proper i h) in
         sym (rest-order alphabet rules p i h)
-        ∙ ap preorder (kept-same alphabet (sifted i) (rightSide alphabet rules i) (right-ranked alphabet rules p i h) (rw o all-full)) ∙ o
+        ∙ ap preorder (kept-same alphabet (sifted i) (rightSide alphabet rules i) (sifted-ranked alphabet rules p i h) (rw o all-full)) ∙ o
 
     same-rule : ruleSifted alphabet rules i ≡ ruleAt rules i
     same-rule = ap (λ (ms : List ℕ). record { rank = ruleRank rules i; nodes = ms }) same-nodes
@@ -105,15 +101,16 @@ module _ (alphabet : List ℕ) (rules : List Rule) (c : Clean alphabet rules) wh
   same-cleaned i h =
       let r = ruleAt rules i in
       let numbers : map (λ m. numbered (present r) m (name m)) (r .nodes) ≡ r .nodes =
-      map-same (λ m. numbered (present r) m (name m)) (r .nodes)
+      map-each (λ m. numbered (present r) m (name m)) (λ m. m) (r .nodes)
       (each-map (λ m. T (allowed alphabet i (ruleRank rules i) (name m))) (λ m. numbered (present r) m (name m) ≡ m)
-      (λ m a. rw (all-present i h) (numbered-same alphabet i (ruleRank rules i) m (name m) refl a)) (r .nodes) (allowed-each i h)) in
+      (λ m a. rw (all-present i h) (numbered-same alphabet i (ruleRank rules i) m (name m) refl a)) (r .nodes) (allowed-each i h))
+      ∙ map-id (r .nodes) in
       let rank : trues (present r) ≡ r .rank = ap trues (all-present i h) ∙ trues-replicate (r .rank) in
       cleaned-at alphabet rules i h ∙ ap renumbered (same-sifted (suc i) i (omega arith) h)
       ∙ ap₂ (λ (n : ℕ) (ms : List ℕ). record { rank = n; nodes = ms }) rank numbers
 
   -- a grammar with nothing to clean stays as it is
-  cleaned-same : cleaned alphabet rules ≡ rules
+  pub cleaned-same : cleaned alphabet rules ≡ rules
   cleaned-same =
       ext-getD empty (cleaned alphabet rules) rules (cleaned-length alphabet rules) (λ i h. same-cleaned i (omega (arith, cleaned-length alphabet rules)))
 
@@ -127,7 +124,7 @@ none-lone rules n h alphabet k (parameter j) a = tt
 none-lone rules n h alphabet k nothing a = tt
 
 module _ (alphabet : List ℕ) (rules : List Rule) (p : Proper alphabet rules) (s : Strict rules) where
-  strict-clean : Clean alphabet rules
+  pub strict-clean : Clean alphabet rules
   strict-clean = record {
     proper = p;
     clean = λ i h.
@@ -141,7 +138,3 @@ module _ (alphabet : List ℕ) (rules : List Rule) (p : Proper alphabet rules) (
               (each-of-all (λ m. allowed alphabet i (ruleRank rules i) (name m)) ms (p .proper i h .allowed)));
         };
   }
-
-  -- where nothing is dropped, nothing changes
-  pub strict-same : cleaned alphabet rules ≡ rules
-  strict-same = cleaned-same alphabet rules strict-clean

@@ -6,10 +6,11 @@ use Prim.Native.Nat.{ℕ, zero, suc, _≤_, _<_}
 use native.Mathlib.Omega.{arith}
 use native.Mathlib.Nat.{eq-or-lt-of-le}
 use native.Mathlib.Decide.{decLt}
+use lib.Dec.{T, ltb→lt}
 use lib.ListN.{length, length-append, length-map, List·getD-append, List·getD-eq-default, List·getD-map}
 use lib.Seq.{getD-at}
 use Rattle.terms.specs.Test.{tabulate}
-use Rattle.terms.specs.Grammar.{Rule, ruleAt, ruleRank}
+use Rattle.terms.specs.Grammar.{Name, terminal, nonterminal, parameter, nothing, Rule, ruleAt, ruleRank, nameRank, allowed}
 use Rattle.cleaning_terms.specs.Cleaning.{present, siftedRules, ruleSifted, trues, renumbered, cleaned}
 use Rattle.cleaning_terms.proofs.Flags.{trues-le, length-present}
 
@@ -37,6 +38,13 @@ module _ (alphabet : List ℕ) (rules : List Rule) where
 
   pub sifted-past : (k i : ℕ) → k ≤ i → ruleAt (siftedRules alphabet rules k) i ≡ empty
   sifted-past k i h = List·getD-eq-default (siftedRules alphabet rules k) empty {n = i} (omega (arith, sifted-length k))
+
+  -- what is allowed in rule i has the rank that it has as written
+  pub sifted-rank : (i : ℕ) (x : Name) → T (allowed alphabet i (ruleRank rules i) x) → nameRank alphabet (siftedRules alphabet rules i) x ≡ nameRank alphabet rules x
+  sifted-rank i (terminal f) a = refl
+  sifted-rank i (nonterminal r) a = ap (λ (q : Rule). q .rank) (sifted-at i r (ltb→lt r i a))
+  sifted-rank i (parameter j) a = refl
+  sifted-rank i nothing a = refl
 
   pub cleaned-length : length (cleaned alphabet rules) ≡ length rules
   unfolding cleaned

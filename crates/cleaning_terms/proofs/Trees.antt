@@ -1,7 +1,7 @@
 -- Cleaning on trees, and that the pass over the nodes in preorder does the same.
 use mathlib.Core.Path.{_≡_, refl, sym, _∙_, ap, ap₂}
 use mathlib.Core.Bool.{Bool, true, false, cond}
-use mathlib.Core.List.{List, [], _∷_, _++_, map, append-assoc, append-nil}
+use mathlib.Core.List.{List, [], _∷_, _++_, map, append-assoc, append-nil, map-append}
 use Prim.Native.Nat.{ℕ, suc}
 use native.Mathlib.Omega.{arith}
 use lib.ListN.{length, replicate, length-replicate}
@@ -49,7 +49,7 @@ ranked-grown rank true m us h e r = (e, r)
 ranked-grown rank false m us h e r = ranked-first rank us (h refl) r
 
 module _ (alphabet : List ℕ) (sifted : List Rule) where
-  pub count-kepts : (ts : Forest) → count (kepts alphabet sifted ts) ≡ count ts
+  count-kepts : (ts : Forest) → count (kepts alphabet sifted ts) ≡ count ts
   unfolding count kepts
   count-kepts none = refl
   count-kepts (more t ts) = ap suc (count-kepts ts)
@@ -61,7 +61,7 @@ module _ (alphabet : List ℕ) (sifted : List Rule) where
   length-keeps nothing = refl
 
   module _ (single : Single sifted) where
-    pub single-keeps : (x : Name) → stays sifted x ≡ false → trues (keeps alphabet sifted x) ≡ 1
+    single-keeps : (x : Name) → stays sifted x ≡ false → trues (keeps alphabet sifted x) ≡ 1
     single-keeps (terminal f) e = absurd (let z : _≡_ {A = ℕ} 0 1 = cc in omega arith)
     single-keeps (nonterminal r) e = single r e
     single-keeps (parameter j) e = absurd (let z : _≡_ {A = ℕ} 0 1 = cc in omega arith)
@@ -74,7 +74,7 @@ module _ (alphabet : List ℕ) (sifted : List Rule) where
     grown-order false m us ns h = rw (preorder-one us (h refl))
 
     -- how many children of a node are kept
-    pub count-kept : (m : ℕ) (ts : Forest) → count ts ≡ rankIn alphabet sifted m
+    count-kept : (m : ℕ) (ts : Forest) → count ts ≡ rankIn alphabet sifted m
         → count (chosen (keeps alphabet sifted (name m)) (kepts alphabet sifted ts)) ≡ trues (keeps alphabet sifted (name m))
     unfolding rankIn
     count-kept m ts e = count-chosen (keeps alphabet sifted (name m)) (kepts alphabet sifted ts) (count-kepts ts ∙ e ∙ sym (length-keeps (name m)))
@@ -140,10 +140,6 @@ module _ (f : ℕ → ℕ) where
   count-map none = refl
   count-map (more t ts) = ap suc (count-map ts)
 
-  map-append : (ms ns : List ℕ) → map f (ms ++ ns) ≡ map f ms ++ map f ns
-  map-append [] ns = refl
-  map-append (m ∷ ms) ns = ap (λ l. f m ∷ l) (map-append ms ns)
-
   mutual
     unfolding preorder preorders mapTree mapTrees
 
@@ -152,7 +148,7 @@ module _ (f : ℕ → ℕ) where
 
     preorders-map : (ts : Forest) → preorders (mapTrees f ts) ≡ map f (preorders ts)
     preorders-map none = refl
-    preorders-map (more t ts) = ap₂ (λ k l. k ++ l) (preorder-map t) (preorders-map ts) ∙ sym (map-append (preorder t) (preorders ts))
+    preorders-map (more t ts) = ap₂ (λ k l. k ++ l) (preorder-map t) (preorders-map ts) ∙ sym (map-append f (preorder t) (preorders ts))
 
   module _ (g h : ℕ → ℕ) where
     mutual

@@ -108,23 +108,23 @@ module _ (alphabet : List ℕ) (rules : List Rule) (p : Proper alphabet rules) w
   abbrev new : ℕ → Tree
   new i = rightSide alphabet (cleaned alphabet rules) i
 
-  abbrev kind : ℕ → List Bool
-  kind i = flags alphabet rules p i
+  abbrev marks : ℕ → List Bool
+  marks i = flags alphabet rules p i
 
   abbrev sifted : ℕ → List Rule
   sifted i = siftedRules alphabet rules i
 
   -- with k steps, rule i at its arguments is the cleaned rule at those that are left
   abbrev Same : ℕ → Type 0
-  Same k = (i : ℕ) → i < k → i < length rules → (args : Forest) → count args ≡ ruleRank rules i → apply new k i (chosen (kind i) args) ≡ apply old k i args
+  Same k = (i : ℕ) → i < k → i < length rules → (args : Forest) → count args ≡ ruleRank rules i → apply new k i (chosen (marks i) args) ≡ apply old k i args
 
   -- and where the cleaned rule is a lone parameter, the one argument that is left
   abbrev Passes : ℕ → Type 0
   Passes k = (i : ℕ) → i < k → i < length rules → lone (ruleSifted alphabet rules i .nodes) ≡ true → (args : Forest) → count args ≡ ruleRank rules i
-      → pick (chosen (kind i) args) 0 ≡ apply old k i args
+      → pick (chosen (marks i) args) 0 ≡ apply old k i args
 
   module _ (k : ℕ) (same : Same k) (passes : Passes k) (i : ℕ) (h : i < suc k) (l : i < length rules) (args : Forest) (c : count args ≡ ruleRank rules i) where
-    fits : count args ≡ length (kind i)
+    fits : count args ≡ length (marks i)
     fits = c ∙ sym (length-present (ruleSifted alphabet rules i))
 
     value-rest : value (apply new k) args (rest alphabet rules p i) ≡ value (apply old k) args (old i)
@@ -135,25 +135,25 @@ module _ (alphabet : List ℕ) (rules : List Rule) (p : Proper alphabet rules) w
         (passes r (omega arith) (omega arith) (not-false _ (rw (sifted-at alphabet rules i r q) at s)) us d))
         args (old i) (right-fine alphabet rules i (p .proper i l))
 
-    same-next : apply new (suc k) i (chosen (kind i) args) ≡ apply old (suc k) i args
+    same-next : apply new (suc k) i (chosen (marks i) args) ≡ apply old (suc k) i args
     unfolding apply
     same-next =
-        let M : ℕ → Type 0 = Marked (kind i) (apply new k) args fits in
-        ap (value (apply new k) (chosen (kind i) args)) (cleaned-right alphabet rules p i l)
-        ∙ value-numbered (kind i) (apply new k) args fits (rest alphabet rules p i)
+        let M : ℕ → Type 0 = Marked (marks i) (apply new k) args fits in
+        ap (value (apply new k) (chosen (marks i) args)) (cleaned-right alphabet rules p i l)
+        ∙ value-numbered (marks i) (apply new k) args fits (rest alphabet rules p i)
         (subst (Each M) (sym (rest-order alphabet rules p i l))
         (each-map (Held alphabet rules i) M (λ m q. q .marked) (ruleSifted alphabet rules i .nodes) (held alphabet rules p i l)))
         ∙ value-rest
 
-    passes-next : lone (ruleSifted alphabet rules i .nodes) ≡ true → pick (chosen (kind i) args) 0 ≡ apply old (suc k) i args
+    passes-next : lone (ruleSifted alphabet rules i .nodes) ≡ true → pick (chosen (marks i) args) 0 ≡ apply old (suc k) i args
     unfolding apply
     passes-next e =
         let a = alone (ruleSifted alphabet rules i .nodes) e in
         let first : Each (Held alphabet rules i) (a .byte ∷ []) = subst (Each (Held alphabet rules i)) (a .nodes) (held alphabet rules p i l) in
         let m = first .0 .marked (a .number) (a .names) in
-        let one : trues (kind i) ≡ 1 = lone-single alphabet rules p i l e in
-        let z : trues (take (a .number) (kind i)) ≡ 0 = omega (arith, trues-below (kind i) (a .number) m) in
-        ap (pick (chosen (kind i) args)) (sym z) ∙ pick-chosen (kind i) args (a .number) fits m
+        let one : trues (marks i) ≡ 1 = lone-single alphabet rules p i l e in
+        let z : trues (take (a .number) (marks i)) ≡ 0 = omega (arith, trues-below (marks i) (a .number) m) in
+        ap (pick (chosen (marks i) args)) (sym z) ∙ pick-chosen (marks i) args (a .number) fits m
         ∙ sym (value-alone (apply new k) args (a .byte) (a .number) (a .names) (rest alphabet rules p i) (rest-order alphabet rules p i l ∙ a .nodes)) ∙ value-rest
 
   both : (k : ℕ) → Same k × Passes k
@@ -163,7 +163,7 @@ module _ (alphabet : List ℕ) (rules : List Rule) (p : Proper alphabet rules) w
       (λ i h l args c. same-next k (b .0) (b .1) i h l args c, λ i h l e args c. passes-next k (b .0) (b .1) i h l args c e)
 
   -- rule i at its arguments derives what the cleaned rule derives at those that are left
-  pub cleaned-apply : (k i : ℕ) → i < k → i < length rules → (args : Forest) → count args ≡ ruleRank rules i → apply new k i (chosen (kind i) args) ≡ apply old k i args
+  pub cleaned-apply : (k i : ℕ) → i < k → i < length rules → (args : Forest) → count args ≡ ruleRank rules i → apply new k i (chosen (marks i) args) ≡ apply old k i args
   cleaned-apply k = both k .0
 
   -- the cleaned grammar derives the grammar's tree
@@ -171,7 +171,7 @@ module _ (alphabet : List ℕ) (rules : List Rule) (p : Proper alphabet rules) w
   unfolding derived chosen count
   cleaned-derived =
       let n = length rules in
-      rw (cleaned-length alphabet rules) (ap (apply new n (n - 1)) (sym (chosen-none′ (kind (n - 1)))) ∙ cleaned-apply n (n - 1) (omega arith) (omega arith) none (sym (p .start)))
+      rw (cleaned-length alphabet rules) (ap (apply new n (n - 1)) (sym (chosen-none′ (marks (n - 1)))) ∙ cleaned-apply n (n - 1) (omega arith) (omega arith) none (sym (p .start)))
     where
       chosen-none′ : (bs : List Bool) → chosen bs none ≡ none
       chosen-none′ [] = refl

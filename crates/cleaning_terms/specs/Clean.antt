@@ -1,4 +1,4 @@
--- What is asked of a cleaned grammar (document 02, R-3).
+-- What is asked of a cleaned grammar (document 02, R-3): that it is non-deleting, and productive as far as rules are called (source document 000, section 5).
 use mathlib.Core.Path.{_≡_}
 use mathlib.Core.Bool.{Bool, false, not}
 use mathlib.Core.List.{List}
@@ -25,3 +25,8 @@ pub record CleanRule (rules : List Rule) (i : ℕ) : Type 0 where
 pub record Clean (alphabet : List ℕ) (rules : List Rule) : Type 0 where
   pub proper : Proper alphabet rules
   pub clean : (i : ℕ) → i < length rules → CleanRule rules i
+
+-- each parameter of a rule occurs exactly once and no right side is a lone parameter, as was asked before R-3: such a grammar is clean (01 Refusals, 11 and 12)
+pub record Strict (rules : List Rule) : Type 0 where
+  pub once : (i : ℕ) → i < length rules → (j : ℕ) → j < ruleRank rules i → sumOver (isParameter j) (ruleAt rules i .nodes) ≡ 1
+  pub several : (i : ℕ) → i < length rules → lone (ruleAt rules i .nodes) ≡ false

@@ -14,7 +14,7 @@ use Rattle.skeletons.proofs.Bytes.{made-bytes}
 use Rattle.cleaning_terms.specs.Cleaning.{cleaned}
 use Rattle.cleaning_terms.proofs.Bound.{cleaned-node-count, cleaned-bound}
 use Rattle.cleaning_terms.proofs.Proper.{cleaned-proper}
-use Rattle.cleaning_terms.proofs.Same.{strict-same}
+use Rattle.cleaning_terms.proofs.Same.{cleaned-same, strict-clean}
 use Rattle.cleaning_terms.proofs.Sifted.{cleaned-length}
 use Rattle.cleaning_terms.proofs.Value.{cleaned-derived}
 use Rattle.rule_parameters.specs.Strict.{strict}
@@ -48,7 +48,7 @@ module _ {table alphabet body : List ℕ} {count : ℕ} (g : Grammar table alpha
   -- where nothing is dropped, the form of the body is that of the cleaned rules
   pub strict-written : {n : ℕ} {exit entry : List ℕ} → strict rules ≡ true → FormWritten alphabet rules (madeForm alphabet rules) n exit entry
       → FormWritten alphabet rules (madeForm alphabet clean) n exit entry
-  strict-written e w = rw (strict-same alphabet rules (g .proper) (strict-is alphabet rules (g .proper) e)) w
+  strict-written e w = rw (cleaned-same alphabet rules (strict-clean alphabet rules (g .proper) (strict-is alphabet rules (g .proper) e))) w
 
   -- the cleaned rules
   module _ {bytes : List ℕ} (written : bytes ≡ writtenRules clean) where

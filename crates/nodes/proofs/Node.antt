@@ -48,10 +48,6 @@ rank-lower alphabet ranks rules i n known (nonterminal r) h = rank-known ranks r
 rank-lower alphabet ranks rules i n known (parameter j) h = refl
 rank-lower alphabet ranks rules i n known nothing h = refl
 
--- a parameter that is allowed is one of the rule's
-pub own-parameter : (alphabet : List ℕ) (i n : ℕ) (x : Name) (j : ℕ) → allowed alphabet i n x ≡ true → x ≡ parameter j → j < n
-own-parameter alphabet i n x j h e = ltb-true j n (rw e at h)
-
 -- there are at most as many trees as nodes
 
 abbrev trees : tree.Wholes → ℕ

@@ -1,13 +1,13 @@
 -- The rules body rule by rule: rule 0, the rules that are drawn, and the last rule.
 use mathlib.Core.Path.{_≡_, refl, _∙_, ap}
-use mathlib.Core.List.{List, [], _∷_, _++_, map}
+use mathlib.Core.List.{List, [], _∷_, _++_, map, map-append}
 use Prim.Native.Nat.{ℕ, suc, _+_, _*_, _≤_}
 use native.Mathlib.Omega.{arith}
 use lib.ListN.{length, length-append}
 use Rattle.terms.specs.Grammar.{Rule}
 use Rattle.terms.specs.Sheet.{writtenRule, writtenRules}
 use Rattle.terms.proofs.Sheet.Rules.{rules-append}
-use Rattle.practice_terms.specs.Draw.{Choice, choices}
+use Rattle.practice_terms.specs.Draw.{choices}
 use Rattle.practice_terms.specs.Practice.{drawnRule, firstRule, lastRule, grammarOf, practiceRules}
 use Rattle.practice_terms.proofs.Choices.{length-choices, length-most}
 use Rattle.practice_terms.proofs.Rules.{length-bytes}
@@ -22,10 +22,6 @@ chosen n x = firstRule ∷ map drawnRule (choicesFrom n 1 x)
 abbrev pub written : ℕ → ℕ → List ℕ
 written n x = writtenRules (chosen n x)
 
-map-append : (cs ds : List Choice) → map drawnRule (cs ++ ds) ≡ map drawnRule cs ++ map drawnRule ds
-map-append [] ds = refl
-map-append (c ∷ cs) ds = ap (λ rs. drawnRule c ∷ rs) (map-append cs ds)
-
 -- rule 0
 pub written-zero : (x : ℕ) → written 0 x ≡ writtenRule firstRule
 unfolding writtenRules choicesFrom
@@ -36,7 +32,7 @@ pub written-more : (n x : ℕ) → written (suc n) x ≡ written n x ++ bytesFro
 written-more n x =
     let c = choiceFrom (suc n) (afterRules n x) in
     ap (λ cs. writtenRules (firstRule ∷ map drawnRule cs)) (choices-more n 1 x (suc n) (omega arith))
-    ∙ ap (λ rs. writtenRules (firstRule ∷ rs)) (map-append (choicesFrom n 1 x) (c ∷ []))
+    ∙ ap (λ rs. writtenRules (firstRule ∷ rs)) (map-append drawnRule (choicesFrom n 1 x) (c ∷ []))
     ∙ rules-append (chosen n x) (drawnRule c)
 
 -- the last rule

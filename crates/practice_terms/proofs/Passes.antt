@@ -9,21 +9,16 @@ use lib.ListN.{length}
 use borrow.Author.Tests.{lt-ltb, le-ltb, eq-eqb, ne-eqb}
 use Rattle.terms.specs.Test.{all, every}
 use Rattle.terms.specs.Tree.{exactly, taking, wholes}
-use Rattle.terms.specs.Grammar.{parameter, nameOf, name, Rule, ruleAt, ruleRank, rankIn, allAllowed, isParameter, sumOver, nodeCount}
+use Rattle.terms.specs.Grammar.{Rule, ruleAt, ruleRank, rankIn, allAllowed, isParameter, sumOver, nodeCount}
 use Rattle.terms.specs.Check.{ruleRefusal, rulesRefusal}
 use Rattle.terms.proofs.Refusal.{none-refused}
-use Rattle.terms.proofs.Grammar.Name.{name-terminal, name-call}
+use Rattle.terms.proofs.Grammar.Name.{name-terminal, name-call, name-parameter}
 use Rattle.terms.specs.Sheet.{writtenRules}
 use Rattle.practice_terms.specs.Draw.{Choice, calls, beside}
 use Rattle.practice_terms.specs.Practice.{practiceAlphabet, drawnRule, firstRule, lastRule, grammarOf}
 use Rattle.practice_terms.proofs.Choices.{Below, AllBelow, length-most}
 use Rattle.terms.proofs.Sheet.Rules.{rules-read}
 use Rattle.practice_terms.proofs.Rules.{choiceAt, length-rules, at-last, Shape, is-first, is-drawn, is-last, shape, rank-one, count-nodes}
-
--- y1
-pub name-parameter : name 0x80 ≡ parameter 0
-unfolding name nameOf
-name-parameter = refl
 
 -- what is asked of rule i, which is r
 record Passing (rules : List Rule) (i : ℕ) (r : Rule) : Type 0 where
@@ -53,7 +48,7 @@ module _ (cs : List Choice) (few : length cs ≤ 20) where
 
   pub rank-parameter : rank 0x80 ≡ 0
   unfolding rankIn
-  rank-parameter = rw name-parameter
+  rank-parameter = rw (name-parameter 0 (omega arith))
 
   pub rank-a : rank 0 ≡ 0
   unfolding rankIn
@@ -73,24 +68,24 @@ module _ (cs : List Choice) (few : length cs ≤ 20) where
   unfolding all every wholes taking
   first-passes i = record {
     small = refl;
-    allowed = rw (name-terminal 1 (omega arith), name-parameter);
+    allowed = rw (name-terminal 1 (omega arith), name-parameter 0 (omega arith));
     whole = rw (rank-h, rank-parameter);
-    once = rw (name-terminal 1 (omega arith), name-parameter);
+    once = rw (name-terminal 1 (omega arith), name-parameter 0 (omega arith));
   }
 
   drawn-passes : (i : ℕ) → i ≤ length cs → (c : Choice) → Below i c → Passing rules i (drawnRule c)
   unfolding all every wholes taking
   drawn-passes i l (calls j k) b = record {
     small = refl;
-    allowed = rw (name-call j (omega arith), name-call k (omega arith), name-parameter, lt-ltb j i (b .0), lt-ltb k i (b .1));
+    allowed = rw (name-call j (omega arith), name-call k (omega arith), name-parameter 0 (omega arith), lt-ltb j i (b .0), lt-ltb k i (b .1));
     whole = rw (rank-call j (omega arith), rank-call k (omega arith), rank-parameter);
-    once = rw (name-call j (omega arith), name-call k (omega arith), name-parameter);
+    once = rw (name-call j (omega arith), name-call k (omega arith), name-parameter 0 (omega arith));
   }
   drawn-passes i l (beside j) b = record {
     small = refl;
-    allowed = rw (name-terminal 2 (omega arith), name-call j (omega arith), name-parameter, name-terminal 0 (omega arith), lt-ltb j i b);
+    allowed = rw (name-terminal 2 (omega arith), name-call j (omega arith), name-parameter 0 (omega arith), name-terminal 0 (omega arith), lt-ltb j i b);
     whole = rw (rank-f, rank-call j (omega arith), rank-parameter, rank-a);
-    once = rw (name-terminal 2 (omega arith), name-call j (omega arith), name-parameter, name-terminal 0 (omega arith));
+    once = rw (name-terminal 2 (omega arith), name-call j (omega arith), name-parameter 0 (omega arith), name-terminal 0 (omega arith));
   }
 
   last-passes : (i : ℕ) → i ≡ suc (length cs) → Passing rules i (lastRule (length cs))

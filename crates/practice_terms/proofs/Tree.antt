@@ -9,13 +9,13 @@ use Rattle.terms.specs.Tree.{Tree, Forest, node, none, more, join, firsts, rest
 use Rattle.terms.specs.Context.{Context, hole, plug}
 use Rattle.terms.specs.Grammar.{Rule, ruleAt, rankIn, rightSide, value, values, apply, derived}
 use Rattle.terms.proofs.Tree.Context.{plug-compose}
-use Rattle.terms.proofs.Grammar.Name.{name-terminal, name-call}
+use Rattle.terms.proofs.Grammar.Name.{name-terminal, name-call, name-parameter}
 use Rattle.practice_terms.specs.Draw.{Choice, calls, beside}
 use Rattle.practice_terms.specs.Practice.{practiceAlphabet, choiceNodes, drawnRule, firstRule, lastRule, grammarOf}
 use Rattle.practice_terms.specs.Described.{treeA, contextH, contextAt, describes, contextsFrom, contextsOf}
 use Rattle.practice_terms.proofs.Choices.{Below, AllBelow}
 use Rattle.practice_terms.proofs.Rules.{choiceAt, below-at, length-rules, at-first, at-drawn, at-last}
-use Rattle.practice_terms.proofs.Passes.{name-parameter, rank-call, rank-parameter, rank-a, rank-h, rank-f}
+use Rattle.practice_terms.proofs.Passes.{rank-call, rank-parameter, rank-a, rank-h, rank-f}
 
 -- What the contexts are.
 
@@ -107,14 +107,14 @@ module _ (cs : List Choice) (below : AllBelow 1 cs) where
 
       value-first : value call args (node 1 (more y none)) ≡ plug contextH t
       unfolding value values pick plug join
-      value-first = rw (name-terminal 1 (omega arith), name-parameter)
+      value-first = rw (name-terminal 1 (omega arith), name-parameter 0 (omega arith))
 
       value-side : (c : Choice) → Below i c → value call args (side c) ≡ plug (describes at c) t
       unfolding value values pick plug join
       value-side (calls j k) b =
-          rw (name-call j (omega arith), name-call k (omega arith), name-parameter, known k (b .1) t, known j (b .0) (plug (at k) t)) (sym (plug-compose (at j) (at k) t))
+          rw (name-call j (omega arith), name-call k (omega arith), name-parameter 0 (omega arith), known k (b .1) t, known j (b .0) (plug (at k) t)) (sym (plug-compose (at j) (at k) t))
       value-side (beside j) b =
-          rw (name-terminal 2 (omega arith), name-call j (omega arith), name-parameter, name-terminal 0 (omega arith), known j b t)
+          rw (name-terminal 2 (omega arith), name-call j (omega arith), name-parameter 0 (omega arith), name-terminal 0 (omega arith), known j b t)
 
     -- rule i called on t
     apply-context : (k i : ℕ) → i < k → i ≤ length cs → (t : Tree) → apply right k i (more t none) ≡ plug (at i) t

@@ -11,10 +11,11 @@ use lib.ListN.{length, getD, take, drop, set, length-set}
 use lib.Seq.{getD-set-same, getD-set-other, getD-drop}
 use Rattle.terms.specs.Grammar.{Name, terminal, nonterminal, parameter, nothing, name, isParameter, sumOver}
 use Rattle.terms.specs.Check.{highestRank}
+use Rattle.terms.proofs.Grammar.Name.{name-parameter}
 use Rattle.terms.proofs.Grammar.Sum.{sum-over-drop}
 use Rattle.terms.proofs.Scan.{drop-back}
 use Rattle.cleaning_terms.specs.Cleaning.{stands, trues}
-use Rattle.cleaning_terms.proofs.Names.{parameter-byte, name-parameter}
+use Rattle.cleaning_terms.proofs.Names.{parameter-byte}
 use Rattle.rule_parameters.specs.Numbers.{PresentNoted}
 
 -- the byte of parameter j counts, and no other byte does

@@ -2,52 +2,18 @@
 use mathlib.Core.Path.{_≡_, refl}
 use mathlib.Core.Bool.{true, false, not, cond}
 use mathlib.Core.List.{List, [], _∷_}
-use Prim.Native.Nat.{ℕ, zero, suc, _+_, _≤_, _<_}
+use Prim.Native.Nat.{ℕ, _≤_, _<_}
 use native.Mathlib.Omega.{arith}
-use native.Mathlib.Decide.{decLt}
 use borrow.Author.Tests.{eq-eqb, eqb-true, not-true}
 use lib.Dec.{T, eqb, ltb→lt}
 use lib.ListN.{length}
 use Rattle.terms.specs.Test.{all}
 use Rattle.terms.specs.Grammar.{Name, terminal, nonterminal, parameter, nothing, name, Rule, ruleAt, allowed, allAllowed, isParameter, anyParameter, sumOver, Proper}
 use Rattle.terms.proofs.Test.{is-true, of-true, parts, all-at}
-use Rattle.terms.proofs.Grammar.Sum.{sumBelow}
+use Rattle.terms.proofs.Grammar.Sum.{sumBelow, sum-plus, sum-least, sum-full}
 use Rattle.cleaning_terms.specs.Cleaning.{lone}
-use Rattle.cleaning_terms.specs.Claims.{Strict}
+use Rattle.cleaning_terms.specs.Clean.{Strict}
 use Rattle.rule_parameters.specs.Strict.{parameterCount, strictRule, strict}
-
--- sums of numbers below a bound
-
-sum-plus : (n : ℕ) (g h : ℕ → ℕ) → sumBelow n (λ j. g j + h j) ≡ sumBelow n g + sumBelow n h
-sum-plus zero g h = refl
-sum-plus (suc n) g h = omega (arith, sum-plus n g h)
-
-sum-least : (n : ℕ) (h : ℕ → ℕ) (j : ℕ) → j < n → h j ≤ sumBelow n h
-sum-least zero h j l = absurd (omega arith)
-sum-least (suc n) h j l = go (decLt j n) (sum-least n h j)
-  where
-    go : Dec (j < n) → (j < n → h j ≤ sumBelow n h) → h j ≤ sumBelow n h + h n
-    go (yes k) ih = omega (arith, ih k)
-    go (no k) ih =
-        let e : j ≡ n = omega arith in
-        rw e (omega arith)
-
--- of numbers that are at most 1
-module _ (h : ℕ → ℕ) (few : (j : ℕ) → h j ≤ 1) where
-  sum-most : (n : ℕ) → sumBelow n h ≤ n
-  sum-most zero = omega arith
-  sum-most (suc n) = omega (arith, few n, sum-most n)
-
-  -- where the sum is as large as it can be, each is 1
-  sum-full : (n : ℕ) → n ≤ sumBelow n h → (j : ℕ) → j < n → h j ≡ 1
-  sum-full zero full j l = absurd (omega arith)
-  sum-full (suc n) full j l = go (decLt j n) (sum-full n (omega (arith, few n)) j)
-    where
-      go : Dec (j < n) → (j < n → h j ≡ 1) → h j ≡ 1
-      go (yes k) ih = ih k
-      go (no k) ih =
-          let e : j ≡ n = omega arith in
-          rw e (omega (arith, few n, sum-most n))
 
 -- the nodes of rule i, of rank n: each parameter among them is one of the n
 module _ (alphabet : List ℕ) (i n : ℕ) where

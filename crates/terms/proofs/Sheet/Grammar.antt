@@ -38,7 +38,7 @@ sum-over-none alphabet i n j h (m ∷ ms) p =
     omega (arith, name-once alphabet i n j h (name m) (both-0 a b p), sum-over-none alphabet i n j h ms (both-1 a b p))
 
 -- where each of the rule's own parameters occurs at most once, each parameter does
-at-most-once : (alphabet : List ℕ) (i n j : ℕ) (ms : List ℕ) → T (allAllowed alphabet i n ms) → (j < n → sumOver (isParameter j) ms ≤ 1)
+pub at-most-once : (alphabet : List ℕ) (i n j : ℕ) (ms : List ℕ) → T (allAllowed alphabet i n ms) → (j < n → sumOver (isParameter j) ms ≤ 1)
     → sumOver (isParameter j) ms ≤ 1
 at-most-once alphabet i n j ms known own = go (decLt j n)
   where

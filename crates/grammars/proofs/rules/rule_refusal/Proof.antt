@@ -10,10 +10,11 @@ use lib.ListN.{getD, drop, length-drop}
 use Rattle.terms.specs.Test.{every}
 use Rattle.terms.specs.Grammar.{allowed}
 use Rattle.terms.specs.Check.{highestRank, isOne, ruleRefusal}
+use Rattle.terms.proofs.Grammar.Fine.{own-parameter}
 use Rattle.nodes.specs.Nodes.{naming, counting}
 use Rattle.grammars.specs.Rules.{seenFrom}
 use Rattle.grammars.proofs.List.{all-zero}
-use Rattle.nodes.proofs.Node.{has-rank, own-parameter, few-trees, few-times}
+use Rattle.nodes.proofs.Node.{has-rank, few-trees, few-times}
 use Rattle.grammars.proofs.Rule.{rows, Scanned, high-refused, none-scanned, unknown-refused, node-scanned, all-scanned}
 use Rattle.grammars.proofs.rules.rule_refusal.Statement.{statement}
 use Rattle.grammars.proofs.rules.rule_refusal.Tie as tie
