@@ -2,6 +2,7 @@
 
 use compare::bench::subjects::{Subject, subjects};
 use compare::reference::facts::Facts;
+use compare::reference::rules::Rule;
 
 fn facts(name: &str) -> Facts {
     let named = |subject: &Subject| subject.name == name;
@@ -33,6 +34,15 @@ fn forty_rules() {
     let forty = facts("forty rules");
     assert_eq!(forty.sheet.rules.len(), 40);
     assert!(forty.whole.length > 200_000_000_000);
+}
+
+#[test]
+fn handed_down() {
+    let handed_down = facts("handed down");
+    assert_eq!((handed_down.sheet.node_count(), handed_down.mask), (127, 1));
+    assert_eq!(handed_down.whole.length, (1 << 25) + 1);
+    let drops = |rule: &Rule| !rule.right.nodes().iter().any(|node| node.is_parameter(1));
+    assert!(handed_down.sheet.rules.iter().filter(|rule| rule.rank == 2).any(drops));
 }
 
 #[test]

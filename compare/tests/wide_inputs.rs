@@ -35,8 +35,8 @@ impl Generated {
     }
 
     fn nodes_of<'r>(&self, rule: &'r Rule, kept: bool) -> Vec<&'r Term> {
-        let flagged = rule.right.nodes().into_iter().zip(self.presence.flags(&rule.right));
-        flagged.filter(|(_, flag)| *flag == kept).map(|(node, _)| node).collect()
+        let nodes = rule.right.nodes().into_iter();
+        nodes.filter(|node| self.presence.stands(&rule.right, node) == kept).collect()
     }
 
     fn drops(&self) -> bool {
@@ -66,7 +66,7 @@ impl Generated {
             .enumerate()
             .find(|(_, child)| child.nodes().iter().any(|node| node.is_parameter(parameter)))?;
         match term {
-            Term::Call(called, _) if !self.presence.keeps(*called, place) => {
+            Term::Call(called, _) if !self.presence.is_present(*called, place) => {
                 Some(1 + self.depth(*called, place))
             }
             _ => self.depth_in(child, parameter),
@@ -76,7 +76,7 @@ impl Generated {
     fn deepest(&self) -> usize {
         let absent = |number: usize| {
             let parameters = 0..self.rules()[number].rank;
-            parameters.filter(move |&parameter| !self.presence.keeps(number, parameter))
+            parameters.filter(move |&parameter| !self.presence.is_present(number, parameter))
         };
         let numbers = 0..self.rules().len();
         let depths = numbers.flat_map(|number| absent(number).map(move |it| (number, it)));
@@ -142,7 +142,7 @@ fn dropped_arguments_in_dropped_arguments_and_rules_called_there_only() {
         let dropped = sheet.nodes(false);
         let drops = |node: &&&Term| match node {
             Term::Call(called, arguments) => {
-                (0..arguments.len()).any(|place| !sheet.presence.keeps(*called, place))
+                (0..arguments.len()).any(|place| !sheet.presence.is_present(*called, place))
             }
             _ => false,
         };

@@ -21,6 +21,7 @@ pub fn subjects() -> Vec<Subject> {
         subject("largest", largest()),
         subject("rank 4 nested", nested()),
         subject("forty rules", with_rules(&doubling(38))),
+        subject("handed down", with_rules(&handed_down(24))),
         subject("chain of 4,096", with_rules(&chain())),
         subject("binary of 4,096", with_rules(&binary())),
     ]
@@ -70,6 +71,17 @@ fn doubling(times: u8) -> Vec<u8> {
         rules.extend([1, 3, 0x40 + rule, 0x40 + rule, 0x80]);
     }
     rules.extend([0, 2, 0x40 + times, 0]);
+    rules
+}
+
+/// Rule 0 is f(y1, a), each of these many more is the last called on the last, and the start is on
+/// a. h(a) is handed down to every call and dropped.
+fn handed_down(times: u8) -> Vec<u8> {
+    let mut rules = vec![2, 3, 1, 0x80, 0];
+    for rule in 0..times {
+        rules.extend([2, 5, 0x40 + rule, 0x40 + rule, 0x80, 0, 0x81]);
+    }
+    rules.extend([0, 4, 0x40 + times, 0, 2, 0]);
     rules
 }
 

@@ -17,14 +17,17 @@ pub fn places(plan: &Plan) -> Vec<(usize, usize)> {
     let presence = Presence::of(&sheet.rules);
     let mut places = Vec::new();
     for (number, rule) in sheet.rules.iter().enumerate() {
-        let flags = presence.flags(&rule.right).into_iter().enumerate();
-        places.extend(flags.filter(|(_, kept)| !kept).map(|(place, _)| (number, place)));
+        let nodes = rule.right.nodes().into_iter().enumerate();
+        let dropped = nodes.filter(|(_, node)| !presence.stands(&rule.right, node));
+        places.extend(dropped.map(|(place, _)| (number, place)));
     }
     places
 }
 
-/// Gives dropped arguments terminals of their own, in some plans. The automaton then has no run on
-/// what is dropped, unless it is drawn anew.
+/// Gives dropped arguments terminals of their own, in some plans. The automaton has no transition
+/// for these, unless it is drawn anew, and so no run on a dropped argument that derives one of
+/// them. It may have a run on others: on a call of a rule that keeps the shared terminals, and
+/// where the alphabet had no room.
 pub fn estrange(random: &mut Random, plan: &mut Plan) {
     if random.one_in(3) {
         return;

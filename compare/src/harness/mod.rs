@@ -12,6 +12,7 @@ pub mod marking;
 pub mod named;
 pub mod named_markings;
 pub mod named_practice;
+pub mod named_wide;
 pub mod practice;
 pub mod request;
 pub mod run;

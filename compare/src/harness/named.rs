@@ -48,6 +48,7 @@ impl Checker<'_> {
         for name in SHEETS {
             self.sheet(random, &rows::sheet(name))?;
         }
+        self.named_wide(random)?;
         self.named_markings(random, &w)?;
         self.named_form_calls(random, &w)?;
         self.named_tree_calls(random, &w)?;

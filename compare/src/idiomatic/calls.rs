@@ -8,7 +8,7 @@ use super::form::{Form, fields};
 use super::making;
 use super::marking::mark;
 use super::practice::practice;
-use super::sheet::Sheet;
+use super::sheet::{Rule, Sheet};
 use super::unfolding::Unfolder;
 use super::walking::{self, Walker};
 use super::wrapping;
@@ -23,6 +23,16 @@ fn made(sheet: &[u8], form: &mut [u8]) -> Answer<usize> {
         return Err(Refusal(17));
     }
     Ok(making::form(&sheet).write(form))
+}
+
+/// Writes the form of a sheet into a slice that has room for it, and answers its length. Cleaning
+/// leaves each rule with the parameters that are told, so that wrong ones can be planted.
+pub fn form_by(
+    sheet: &[u8],
+    present_in: impl Fn(&Rule, &[u8]) -> u8,
+    form: &mut [u8],
+) -> Answer<usize> {
+    Ok(making::form_by(&Sheet::read(sheet)?, present_in).write(form))
 }
 
 fn evaluated(alphabet: &[u8], automaton: &[u8], form: &[u8], relations: &mut [u64]) -> Answer<u8> {

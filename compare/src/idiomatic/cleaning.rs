@@ -24,10 +24,12 @@ struct Cleaner<'s> {
     flags: Vec<bool>,
 }
 
-/// Writes the cleaned rules into the body and reads them there.
+/// Writes the cleaned rules into the body and reads them there. Which parameters a rule is left
+/// with, bit i for parameter i, is told from the rule as written and from the nodes that are kept.
 pub fn clean<'b>(
     alphabet: Alphabet,
     written: &[Rule],
+    present_in: impl Fn(&Rule, &[u8]) -> u8,
     body: &'b mut [u8; LONGEST_BODY],
 ) -> Vec<Rule<'b>> {
     let lower = Vec::with_capacity(written.len());
@@ -39,10 +41,11 @@ pub fn clean<'b>(
         };
         let length = cleaner.keep(rule, place);
         let nodes = &mut place[..length];
-        let present = renumber(nodes);
-        let lone = matches!(nodes, [0x80..=0x83]);
-        cleaner.lower.push(Cleaned { rank: rule.rank, present, lone });
+        let present = present_in(rule, nodes);
+        renumber(nodes, present);
         (*rank, *count) = (present.count_ones() as u8, length as u8);
+        let lone = *rank == 1 && matches!(nodes, [0x80..=0x83]);
+        cleaner.lower.push(Cleaned { rank: rule.rank, present, lone });
         end += 2 + length;
     }
     rules(&body[..end]).0
@@ -80,13 +83,16 @@ impl Cleaner<'_> {
     }
 }
 
-/// Numbers the parameters anew in their old order and answers which they were.
-fn renumber(nodes: &mut [u8]) -> u8 {
+/// The parameters among the nodes: bit i for parameter i.
+pub fn parameters(nodes: &[u8]) -> u8 {
     let parameters = nodes.iter().filter(|node| **node >= 0x80);
-    let present = parameters.fold(0, |set, node| set | 1 << (node - 0x80));
+    parameters.fold(0, |set, node| set | 1 << (node - 0x80))
+}
+
+/// Numbers the parameters anew in their old order, where these are present.
+fn renumber(nodes: &mut [u8], present: u8) {
     for node in nodes.iter_mut().filter(|node| **node >= 0x80) {
         let before = present & ((1 << (*node - 0x80)) - 1);
         *node = 0x80 + u8::count_ones(before) as u8;
     }
-    present
 }

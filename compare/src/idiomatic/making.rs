@@ -1,7 +1,7 @@
 //! Form making by skeletons: source document 000, section 6, in one pass.
 
 use super::alphabet::Alphabet;
-use super::cleaning::{LONGEST_BODY, clean};
+use super::cleaning::{LONGEST_BODY, clean, parameters};
 use super::form::{Form, FormRule};
 use super::sheet::{Rule, Sheet};
 
@@ -30,11 +30,16 @@ struct Maker<'s> {
 
 /// A form that derives the sheet's tree.
 pub fn form(sheet: &Sheet) -> Form {
+    form_by(sheet, |_: &Rule, kept: &[u8]| parameters(kept))
+}
+
+/// The form where cleaning leaves each rule with the parameters that are told.
+pub fn form_by(sheet: &Sheet, present_in: impl Fn(&Rule, &[u8]) -> u8) -> Form {
     if sheet.is_clean {
         return form_of(sheet.alphabet, &sheet.rules);
     }
     let mut body = [0; LONGEST_BODY];
-    form_of(sheet.alphabet, &clean(sheet.alphabet, &sheet.rules, &mut body))
+    form_of(sheet.alphabet, &clean(sheet.alphabet, &sheet.rules, present_in, &mut body))
 }
 
 /// The form of rules that need no cleaning, unless for a rule that is one parameter and never

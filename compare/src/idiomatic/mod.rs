@@ -17,4 +17,6 @@ mod unfolding;
 mod walking;
 mod wrapping;
 
-pub use calls::Idiomatic;
+pub use calls::{Idiomatic, form_by};
+pub use cleaning::parameters;
+pub use sheet::Rule;

@@ -26,6 +26,22 @@ impl FormRule {
             FormRule::Node { open: true, .. } | FormRule::Composed { .. } => 1,
         }
     }
+
+    /// The rules that this one calls.
+    fn calls(&self) -> Vec<usize> {
+        match self {
+            FormRule::Node { children, .. } => {
+                let called = |child: &Child| match child {
+                    Child::Rule(number) => Some(*number),
+                    Child::Hole => None,
+                };
+                children.iter().filter_map(called).collect()
+            }
+            FormRule::Applied { outer, inner } | FormRule::Composed { outer, inner } => {
+                vec![*outer, *inner]
+            }
+        }
+    }
 }
 
 pub struct Form {
@@ -37,6 +53,18 @@ impl Form {
     /// Refusal 18.
     pub fn read(alphabet: &Alphabet, bytes: &[u8]) -> Answer<Form> {
         parse(alphabet, bytes).ok_or(Refusal(18))
+    }
+
+    /// Of each rule, whether the start is that rule or calls it, directly or through others.
+    pub fn reached(&self) -> Vec<bool> {
+        let mut reached = vec![false; self.rules.len()];
+        reached[self.start] = true;
+        for number in (0..self.rules.len()).rev() {
+            if reached[number] {
+                self.rules[number].calls().into_iter().for_each(|lower| reached[lower] = true);
+            }
+        }
+        reached
     }
 }
 

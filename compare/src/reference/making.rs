@@ -6,6 +6,7 @@ use super::counts;
 use super::facts::Facts;
 use super::form::Form;
 use super::label;
+use super::presence::Presence;
 use super::relations;
 use super::unfolding;
 use crate::refusal::{Answer, Refusal};
@@ -36,7 +37,7 @@ pub fn check(facts: &Facts, bytes: &[u8]) -> Result<(), String> {
     if mask != u64::from(facts.mask) {
         return Err(format!("the form's mask is {mask}, the sheet's {}", facts.mask));
     }
-    Ok(())
+    check_reached(facts, &form)
 }
 
 fn check_bounds(facts: &Facts, form: &Form) -> Result<(), String> {
@@ -59,4 +60,17 @@ fn check_labels(facts: &Facts, form: &Form) -> Result<(), String> {
         }
     }
     Ok(())
+}
+
+/// No rule of a form stands for a part that is not in the tree of the sheet's rule that writes it.
+/// Where the derivation of the sheet's start calls every rule, each such part is one of the sheet's
+/// tree, so that the form's start must reach every rule of the form.
+fn check_reached(facts: &Facts, form: &Form) -> Result<(), String> {
+    let rules = &facts.sheet.rules;
+    match form.reached().iter().position(|reached| !reached) {
+        Some(number) if Presence::of(rules).every_rule_is_called(rules) => {
+            Err(format!("rule {number} of the form stands for no part of the tree"))
+        }
+        _ => Ok(()),
+    }
 }

@@ -14,6 +14,7 @@ pub mod form;
 pub mod label;
 pub mod making;
 pub mod marking;
+pub mod outline;
 pub mod practice;
 pub mod presence;
 pub mod profile;

@@ -1,37 +1,25 @@
-//! What rules derive, in outline: stretches of terminals and the parameters between them. It gives
-//! the size and the labels of the sheet's tree without the form, however large the tree is. What
-//! stands in a dropped argument is in no outline.
+//! The size and the labels of the sheet's tree without the form, by the outlines of its rules,
+//! however large the tree is.
 
 use super::fingerprint::Fingerprint;
+use super::outline::{Outlines, Piece};
 use super::rules::Rule;
 use super::term::Term;
 
-#[derive(Clone, Copy)]
-enum Piece {
-    Terminals(Fingerprint),
-    Parameter(usize),
-}
-
-/// The outline of each rule.
 pub struct Profiles<'s> {
     rules: &'s [Rule],
-    outlines: Vec<Vec<Piece>>,
+    outlines: Outlines,
 }
 
 impl<'s> Profiles<'s> {
     pub fn of(rules: &'s [Rule]) -> Profiles<'s> {
-        let mut profiles = Profiles { rules, outlines: Vec::new() };
-        for rule in rules {
-            let outline = merged(profiles.outline(&rule.right));
-            profiles.outlines.push(outline);
-        }
-        profiles
+        Profiles { rules, outlines: Outlines::of(rules) }
     }
 
     /// The fingerprint of the sheet's tree in preorder.
     pub fn whole(&self) -> Fingerprint {
-        match self.outlines.last().map(Vec::as_slice) {
-            Some([Piece::Terminals(whole)]) => *whole,
+        match self.outlines.of_rule(self.rules.len() - 1) {
+            [Piece::Terminals(whole)] => *whole,
             _ => unreachable!("the start has terminals and no parameters"),
         }
     }
@@ -42,24 +30,6 @@ impl<'s> Profiles<'s> {
         self.label_in(&start.right, &[], position)
     }
 
-    fn outline(&self, term: &Term) -> Vec<Piece> {
-        match term {
-            Term::Parameter(parameter) => vec![Piece::Parameter(*parameter)],
-            Term::Terminal(terminal, children) => {
-                let mut pieces = vec![Piece::Terminals(Fingerprint::of(*terminal))];
-                pieces.extend(children.iter().flat_map(|child| self.outline(child)));
-                pieces
-            }
-            Term::Call(rule, arguments) => {
-                let in_place = |piece: &Piece| match piece {
-                    Piece::Parameter(parameter) => self.outline(&arguments[*parameter]),
-                    stretch => vec![*stretch],
-                };
-                self.outlines[*rule].iter().flat_map(in_place).collect()
-            }
-        }
-    }
-
     /// The number of nodes of what the term derives, with these sizes of what is put for the
     /// parameters.
     fn size(&self, term: &Term, sizes: &[u64]) -> u64 {
@@ -67,7 +37,7 @@ impl<'s> Profiles<'s> {
             Piece::Terminals(stretch) => stretch.length,
             Piece::Parameter(parameter) => sizes[parameter],
         };
-        self.outline(term).into_iter().map(piece_size).sum()
+        self.outlines.of_term(term).into_iter().map(piece_size).sum()
     }
 
     /// The terminal at a position that lies in no parameter.
@@ -94,7 +64,7 @@ impl<'s> Profiles<'s> {
     fn label_in_call(&self, rule: usize, arguments: &[Term], sizes: &[u64], position: u64) -> u8 {
         let given: Vec<u64> = arguments.iter().map(|term| self.size(term, sizes)).collect();
         let mut left = position;
-        for piece in &self.outlines[rule] {
+        for piece in self.outlines.of_rule(rule) {
             let size = match piece {
                 Piece::Terminals(stretch) => stretch.length,
                 Piece::Parameter(parameter) => given[*parameter],
@@ -109,18 +79,4 @@ impl<'s> Profiles<'s> {
         }
         self.label_in(&self.rules[rule].right, &given, position)
     }
-}
-
-/// The outline with neighbouring stretches joined.
-fn merged(pieces: Vec<Piece>) -> Vec<Piece> {
-    let mut joined: Vec<Piece> = Vec::new();
-    for piece in pieces {
-        match (joined.last_mut(), piece) {
-            (Some(Piece::Terminals(before)), Piece::Terminals(stretch)) => {
-                *before = before.then(stretch);
-            }
-            _ => joined.push(piece),
-        }
-    }
-    joined
 }

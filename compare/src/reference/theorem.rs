@@ -54,7 +54,7 @@ impl Method<'_> {
             }
             Term::Call(rule, arguments) => {
                 let of_argument = |(place, argument): (usize, &Term)| {
-                    if self.presence.keeps(*rule, place) { of_child(argument) } else { FREE }
+                    if self.presence.is_present(*rule, place) { of_child(argument) } else { FREE }
                 };
                 let sets: Vec<u8> = arguments.iter().enumerate().map(of_argument).collect();
                 union(&self.tables[*rule], usize::from(self.automaton.states), &sets)

@@ -76,6 +76,19 @@ pub enum Fault {
     LengthToldOnShort,
     SheetWritesPast,
     SheetFollowsOldBytes,
+    RunOfDroppedAsked,
+    PresentAsWritten,
+    RuleForDropped,
+    RenumberedByAppearance,
+    FirstArgumentsKept,
+    RepeatedAfterCleaning,
+    DroppedNamesNotChecked,
+    DroppedTreesNotChecked,
+    DroppedNodesNotCounted,
+    CleanedNodesCounted,
+    LoneStillRefused,
+    LoneOfRank1Only,
+    LeftOutStillRefused,
 }
 
 pub struct Planted {
@@ -98,7 +111,7 @@ impl Planted {
         if self.has(Fault::ParametersByAppearance) && lawful() {
             return by_appearance(sheet);
         }
-        sheet.to_vec()
+        self.wide_as_read(sheet).unwrap_or_else(|| sheet.to_vec())
     }
 
     /// The refusal that a wrong order of the checks gives.
@@ -111,7 +124,7 @@ impl Planted {
         if self.has(Fault::AutomatonBeforeRules) && (14..=16).contains(&of_automaton) {
             return of_automaton;
         }
-        if self.has(Fault::RanksBeforeNodes) && (9..=12).contains(&code) && rank_over_4(rules) {
+        if self.has(Fault::RanksBeforeNodes) && (9..=11).contains(&code) && rank_over_4(rules) {
             return 8;
         }
         code
@@ -335,11 +348,15 @@ impl Engine for Planted {
             return 17;
         }
         let code = Idiomatic.make_form(&self.as_read(sheet), form, written);
+        if code == 17 && self.takes_short_slice(sheet, form.len()) {
+            return 0;
+        }
         let code = self.other_order(sheet, code);
         if code == 0 {
             self.spoil_form(first, form, written);
+            self.spoil_wide_form(sheet, form, written);
         }
-        code
+        self.wide_refusal(sheet).unwrap_or(code)
     }
 
     fn mark(

@@ -3,6 +3,7 @@
 mod engine;
 mod marking;
 mod practice;
+mod wide;
 
 use compare::harness::run::run_generated;
 use engine::{Fault, Planted};
@@ -79,11 +80,40 @@ const FAULTS: [(Fault, &str); 68] = [
     (Fault::SheetFollowsOldBytes, "practice"),
 ];
 
+/// Each fault of rules that leave out parameters or are one alone, the call whose difference tells
+/// of it, and words of that difference.
+const WIDE_FAULTS: [(Fault, &str, &str); 13] = [
+    (Fault::RunOfDroppedAsked, "mark", "mask or terminal: found    0"),
+    (Fault::PresentAsWritten, "make_form", "stands for no part of the tree"),
+    (Fault::RuleForDropped, "make_form", "stands for no part of the tree"),
+    (Fault::RenumberedByAppearance, "make_form", "the form derives another tree"),
+    (Fault::FirstArgumentsKept, "make_form", "the form derives another tree"),
+    (Fault::RepeatedAfterCleaning, "make_form", "code: expected 11"),
+    (Fault::DroppedNamesNotChecked, "make_form", "code: expected 9"),
+    (Fault::DroppedTreesNotChecked, "make_form", "code: expected 10"),
+    (Fault::DroppedNodesNotCounted, "make_form", "code: expected 7"),
+    (Fault::CleanedNodesCounted, "make_form", "code: expected 17, found 0"),
+    (Fault::LoneStillRefused, "make_form", " 12\n"),
+    (Fault::LoneOfRank1Only, "make_form", " 12\n"),
+    (Fault::LeftOutStillRefused, "make_form", " 11\n"),
+];
+
 #[test]
 fn every_planted_fault_is_found() {
     for (fault, call) in FAULTS {
         let failure = run_generated(&Planted::new(fault), 4000, 5).err();
         let failure = failure.unwrap_or_else(|| panic!("{fault:?} was not found"));
         assert_eq!(failure.difference.call(), call, "{fault:?}");
+    }
+}
+
+#[test]
+fn every_planted_fault_of_wider_rules_is_found() {
+    for (fault, call, words) in WIDE_FAULTS {
+        let failure = run_generated(&Planted::new(fault), 4000, 5).err();
+        let failure = failure.unwrap_or_else(|| panic!("{fault:?} was not found"));
+        let told = failure.difference.to_string();
+        assert_eq!(failure.difference.call(), call, "{fault:?}\n{told}");
+        assert!(told.contains(words), "{fault:?}\n{told}");
     }
 }

@@ -118,8 +118,12 @@ impl Planted {
             let form = &mut *call.form;
             let mut written = 4 + 12 * (usize::from(form[0]) + 256 * usize::from(form[1]));
             self.spoil_form(first, form, &mut written);
+            self.spoil_wide_form(call.sheet, form, &mut written);
             let [alphabet, _, automaton] = bodies(&sheet);
             Idiomatic.evaluate(alphabet, automaton, &form[..written], call.relations, &mut 0);
+        }
+        if code == 0 && self.misses_run(call.sheet) {
+            (*call.mask, *call.verdict) = (0, 0);
         }
         if code == 0 && self.has(Fault::RelationsForgotten) {
             call.relations.copy_from_slice(&kept);
