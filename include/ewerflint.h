@@ -7,17 +7,18 @@
  * No pointer is null, also where the length is 0, and each is aligned for its type. What a call may write, slices and results, overlaps
  * nothing else that the call is given; what it only reads may overlap. Elements behind those that a call writes are kept.
  *
- * Lengths. G is the number of all right-side nodes of a sheet, parameters included: the sum of the node counts of its rules. R is the
- * number of rules of a form, which EWF_RULES reads from its bytes. Who does not want to count lends the largest lengths.
+ * Lengths. G is the number of all right-side nodes of a sheet as written, parameters and dropped arguments included: the sum of the node
+ * counts of its rules. R is the number of rules of a form, which EWF_RULES reads from its bytes. Who does not want to count lends the
+ * largest lengths.
  *
  * Threads and memory. A call keeps nothing behind: no state, no pointer, no heap. Calls may run at the same time on several threads,
  * where none writes what another one is given.
  *
  * Stack. The most bytes that each call was seen to take, on the inputs of link/stack.c, which go deepest; link/stack measures them anew.
- *   ewf_make_form 10,900    ewf_mark 11,076      ewf_evaluate 3,304     ewf_size 152     ewf_label 33,016
+ *   ewf_make_form 11,188    ewf_mark 11,364      ewf_evaluate 3,304     ewf_size 152     ewf_label 33,016
  *   ewf_read_rule 56        ewf_unfold 329,760   ewf_walk 524,924       ewf_wrap 216     ewf_practice 168
  * Unfolding takes 144 bytes for each level of a form's rules, the walk 128 for each level of its tree. No other call goes deeper with
- * what it is given, save making and marking, which take 8,212 to 8,516 and 8,388 to 8,692 on the sheets W, K7 and billions of samples/. */
+ * what it is given, save making and marking, which take 8,500 to 8,804 and 8,676 to 8,980 on the sheets W, K7 and billions of samples/. */
 #ifndef EWERFLINT_H
 #define EWERFLINT_H
 

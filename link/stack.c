@@ -61,13 +61,14 @@ static void make_deep_form(void)
 }
 
 /* A sheet whose rule 0 has four parameters, the open children of its terminals of rank 4 being the last ones, one below the other. Rule 1 calls it with
- * one argument that is open, so that each of these terminals has one open child and is contracted with what stands there. */
+ * one argument that is open, so that each of these terminals has one open child and is contracted with what stands there; and it drops its second
+ * parameter, so that the rules are cleaned. */
 static void make_deep_sheet(void)
 {
     static const uint8_t rules[] = {
         4, 20, ONE, FOUR, LEAF, LEAF, ONE, 0x80, ONE, FOUR, LEAF, LEAF, ONE, 0x81, ONE, FOUR, LEAF, LEAF, ONE, 0x82, ONE, 0x83,
-        1, 5, 0x40, LEAF, LEAF, LEAF, 0x80,
-        0, 2, 0x41, LEAF,
+        2, 5, 0x40, LEAF, LEAF, LEAF, 0x80,
+        0, 3, 0x41, LEAF, LEAF,
     };
     static const size_t contents = 12;
     size_t lengths[3] = {sizeof alphabet, sizeof rules, sizeof automaton};
