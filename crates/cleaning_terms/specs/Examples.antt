@@ -2,7 +2,8 @@
 use mathlib.Core.List.{List, [], _∷_}
 use Prim.Native.Nat.{ℕ}
 use Rattle.terms.specs.Sheet.{rulesBody, writtenRules}
-use Rattle.terms.specs.Examples.{CallRow, hex, wAlphabet, wRules}
+use Rattle.terms.specs.Examples.{hex, wAlphabet, wRules}
+use Rattle.terms.specs.CallExamples.{CallRow}
 use Rattle.cleaning_terms.specs.Cleaning.{cleaned}
 
 -- a rules body, and the body of the cleaned rules (02 R-3)

@@ -4,7 +4,8 @@ use Prim.Native.Nat.{ℕ}
 use Rattle.terms.specs.Tree.{preorder}
 use Rattle.terms.specs.Check.{sheetRefusal}
 use Rattle.terms.specs.Sheet.{sheetTree}
-use Rattle.terms.specs.Examples.{CallRow, hex, is}
+use Rattle.terms.specs.Examples.{hex}
+use Rattle.terms.specs.CallExamples.{CallRow, is}
 use Rattle.practice_terms.specs.Draw.{draws}
 use Rattle.practice_terms.specs.Practice.{practiceSheet, practiceRefusal}
 use Rattle.practice_terms.specs.Described.{practiceTree}

@@ -5,7 +5,8 @@ use lib.ListN.{set, replicate}
 use Rattle.terms.specs.Sheet.{accepted, declined}
 use Rattle.terms.specs.Answer.{refused, answered}
 use Rattle.terms.specs.Calls.{MarkAnswer}
-use Rattle.terms.specs.Examples.{W, wWith, counting}
+use Rattle.terms.specs.Examples.{W, wWith}
+use Rattle.terms.specs.CallExamples.{counting}
 use Rattle.tallies.specs.declared.tally.Step.{Step}
 use Rattle.tallies.specs.Turn.{Turn}
 use Rattle.tallies.specs.Counts.{step}

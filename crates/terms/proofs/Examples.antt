@@ -15,7 +15,8 @@ use Rattle.terms.specs.Check.{alphabetRefusal, isTree, treeRefusal, tran
 use Rattle.terms.specs.FormBytes.{tableRule, tableRules, formTree, ruleFits, validFor, formRefusal}
 use Rattle.terms.specs.Count.{sizeAnswer}
 use Rattle.terms.specs.Calls.{makingRefusal, sheetMarkingRefusal, openingRefusal, readingRefusal, evaluationRefusal, relationsOf, formMask, rulesCounts, sizeRefusal, unfoldingRefusal, labelRefusal, labelAt, walkRefusal, walkMask, walkMasks, wrapRefusal}
-use Rattle.terms.specs.Examples.{SheetRow, CallRow, hex, times, outcome, W, K7, K8, desk, papers, sheetRefusals, emptyPlaces, form, fieldRefusals, calls}
+use Rattle.terms.specs.Examples.{SheetRow, hex, times, outcome, W, K7, K8, desk, papers, sheetRefusals, emptyPlaces}
+use Rattle.terms.specs.CallExamples.{CallRow, form, fieldRefusals, calls}
 
 -- each sheet comes out as its row says
 abbrev pub SheetsHold : List SheetRow → Type 0

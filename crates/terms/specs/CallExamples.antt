@@ -1,0 +1,192 @@
+-- Calls with what must come out (document 01, "Refusals with a sheet for each" and "Sheets for the desk", and document 02), as bytes and numbers.
+use mathlib.Core.List.{List, [], _∷_, _++_}
+use Prim.Native.Nat.{ℕ, _+_, _*_, _-_, _^_}
+use lib.ListN.{take, set, replicate}
+use Rattle.terms.specs.Tree.{preorder}
+use Rattle.terms.specs.Sheet.{nodesOf, sheetMask, wrapped}
+use Rattle.terms.specs.FormBytes.{formTree}
+use Rattle.terms.specs.Calls.{makingRefusal, sheetMarkingRefusal, markingRefusal, openingRefusal, readingRefusal, evaluationRefusal, relationsOf, formMask, sizeRefusal, unfoldingRefusal, labelRefusal, labelAt, countsOf, walkRefusal, walkMask, walkMasks, wrapRefusal}
+use Rattle.terms.specs.Examples.{hex, times, W, wWith, wAlphabet, wAutomaton, K7, K8}
+
+-- what the definitions give for a call, and what must come out (01 Sheets for the desk)
+pub record CallRow : Type 0 where
+  pub gives : List ℕ
+  pub says : List ℕ
+
+-- a number, and what it must be (01 Sheets for the desk)
+abbrev pub is : ℕ → ℕ → CallRow
+is n m = record { gives = n ∷ []; says = m ∷ [] }
+
+-- a tally's counts, all 0 but candidate c's count at place w, which is n (02 R-1)
+abbrev pub counting : ℕ → ℕ → ℕ → List ℕ
+counting c w n = set (replicate 48 0) (3 * c + w) n
+
+-- a form for W's tree: 0 is a, 1 is h(y), 2 is f(y, a), 3 is h(h(y)), 4 is f(h(y), a), 5 is f(h(h(h(y))), a), 6 is h(a), 7, the start, is
+-- f(h(h(h(h(a)))), a), and 8 is f(h(a), a) (01 Sheets for the desk)
+unfoldable pub form : List ℕ
+form =
+    hex 4 0x0900_0700
+    ++ hex 108 0x00000000_FFFFFFFFFFFFFFFF_01020100_FFFFFFFFFFFFFFFF_01010100_FFFF0000FFFFFFFF_03FF0000_01000100FFFFFFFF_03FF0000_02000100FFFFFFFF_03FF0000_04000300FFFFFFFF_02FF0000_01000000FFFFFFFF_02FF0000_05000600FFFFFFFF_00010000_06000000FFFFFFFF
+
+-- the refusal of the form with one byte set (01 Sheets for the desk)
+abbrev pub formWith : ℕ → ℕ → ℕ
+formWith i b = openingRefusal wAlphabet (set form i b)
+
+-- the form's fields: all are in order, then one at a time is not (01 One-hole form)
+unfoldable pub fieldRefusals : List CallRow
+fieldRefusals =
+    is (openingRefusal wAlphabet form) 0
+    -- length: 3 bytes, none, one short, one too many
+    ∷ is (openingRefusal wAlphabet (take 3 form)) 18
+    ∷ is (openingRefusal wAlphabet []) 18
+    ∷ is (openingRefusal wAlphabet (take 111 form)) 18
+    ∷ is (openingRefusal wAlphabet (form ++ (0xFF ∷ []))) 18
+    ∷ is (openingRefusal wAlphabet (replicate 112 0xFF)) 18
+    -- a and f(a, a, a, a): whole, one byte short
+    ∷ is (openingRefusal (hex 2 0x0004) (hex 28 0x0200_0100_00000000_FFFFFFFFFFFFFFFF_00010000_0000000000000000)) 0
+    ∷ is (openingRefusal (hex 2 0x0004) (hex 27 0x0200_0100_00000000_FFFFFFFFFFFFFFFF_00010000_00000000000000)) 18
+    -- rule count: another, none, 2,049
+    ∷ is (formWith 0 0x08) 18
+    ∷ is (openingRefusal wAlphabet (hex 4 0x00000000)) 18
+    ∷ is (openingRefusal wAlphabet (hex 4 0x0108_0000 ++ times 2049 (hex 12 0x00000000_FFFFFFFFFFFFFFFF))) 18
+    -- start: not below R, of rank 1
+    ∷ is (formWith 2 0x09) 18
+    ∷ is (formWith 2 0x05) 18
+    -- kind 0, rule 8: kind, terminal, terminal's rank, hole, fourth byte, slot not lower, slot of rank 1, used slot FFFF, unused slot not FFFF
+    ∷ is (formWith 100 0x04) 18
+    ∷ is (formWith 101 0x03) 18
+    ∷ is (formWith 101 0x02) 18
+    ∷ is (formWith 102 0x01) 18
+    ∷ is (formWith 103 0x01) 18
+    ∷ is (formWith 104 0x08) 18
+    ∷ is (formWith 106 0x01) 18
+    ∷ is (openingRefusal wAlphabet (take 106 form ++ replicate 6 0xFF)) 18
+    ∷ is (formWith 108 0x00) 18
+    ∷ is (formWith 111 0x00) 18
+    -- kind 0, rule 0, whose slots are all unused: terminal, hole; rule 8 as kind 1 with hole 0, and with hole 3
+    ∷ is (formWith 5 0x03) 18
+    ∷ is (formWith 6 0x01) 18
+    ∷ is (formWith 100 0x01) 18
+    ∷ is (openingRefusal wAlphabet (set (set form 100 0x01) 102 0x03)) 18
+    -- kind 1, rule 2: terminal, hole 0, hole past the rank, another hole, fourth byte, the hole's slot, the other slot, an unused slot
+    ∷ is (formWith 29 0x03) 18
+    ∷ is (formWith 30 0x00) 18
+    ∷ is (formWith 30 0x03) 18
+    ∷ is (formWith 30 0x02) 18
+    ∷ is (formWith 31 0x01) 18
+    ∷ is (formWith 32 0x00) 18
+    ∷ is (formWith 34 0x01) 18
+    ∷ is (formWith 35 0x01) 18
+    ∷ is (formWith 36 0x00) 18
+    -- kind 3, rule 5: terminal, hole, fourth byte, B not lower, B of rank 0, C of rank 0, unused slots
+    ∷ is (formWith 65 0x00) 18
+    ∷ is (formWith 66 0x01) 18
+    ∷ is (formWith 67 0x01) 18
+    ∷ is (formWith 68 0x05) 18
+    ∷ is (formWith 68 0x00) 18
+    ∷ is (formWith 70 0x00) 18
+    ∷ is (formWith 72 0x00) 18
+    ∷ is (formWith 74 0x00) 18
+    -- kind 2, rule 6: terminal, hole, fourth byte, B of rank 0, C not lower, C of rank 1, unused slots
+    ∷ is (formWith 77 0x00) 18
+    ∷ is (formWith 78 0x01) 18
+    ∷ is (formWith 79 0x01) 18
+    ∷ is (formWith 80 0x00) 18
+    ∷ is (formWith 82 0x07) 18
+    ∷ is (formWith 82 0x01) 18
+    ∷ is (formWith 84 0x00) 18
+    ∷ is (formWith 86 0x00) 18
+    ∷ []
+
+-- refusals 17 to 26, the order of each call's refusals, and what the calls on a form answer (01 Refusals, 02 R-1)
+unfoldable pub calls : List CallRow
+calls =
+    -- right-side nodes
+    is (nodesOf W) 11
+    ∷ is (nodesOf K7) 34
+    -- child states in order: f(1, 0) to 0 and f(0, 1) to 0 on f(h(a), a)
+    ∷ is (sheetMask (set K8 48 0x01)) 1
+    ∷ is (sheetMask (set K8 49 0x01)) 0
+    -- form making
+    ∷ is (makingRefusal W 2115) 17
+    ∷ is (makingRefusal W 2116) 0
+    ∷ is (makingRefusal (wWith 34 0x03) 0) 16
+    -- marking: 1 to 16, 17, 19
+    ∷ is (sheetMarkingRefusal W 2116 176) 0
+    ∷ is (sheetMarkingRefusal W 2115 175) 17
+    ∷ is (sheetMarkingRefusal W 2116 175) 19
+    -- marking for a candidate: 26, 25, 1 to 16, 17, 19
+    ∷ is (markingRefusal (counting 2 0 0) 2 W 2116 176) 0
+    ∷ is (markingRefusal (counting 2 0 0) 2 W 2116 175) 19
+    ∷ is (markingRefusal (counting 2 0 0) 2 W 2115 175) 17
+    ∷ is (markingRefusal (counting 2 0 0) 2 [] 0 0) 1
+    -- one of candidate 2's counts is full, each in turn; those of the others may be
+    ∷ is (markingRefusal (counting 2 0 4_294_967_295) 2 [] 0 0) 25
+    ∷ is (markingRefusal (counting 2 1 4_294_967_295) 2 [] 0 0) 25
+    ∷ is (markingRefusal (counting 2 2 4_294_967_295) 2 [] 0 0) 25
+    ∷ is (markingRefusal (counting 2 0 4_294_967_294) 2 W 2116 176) 0
+    ∷ is (markingRefusal (counting 2 0 4_294_967_295) 3 W 2116 176) 0
+    ∷ is (markingRefusal (counting 2 2 4_294_967_295) 3 W 2116 176) 0
+    ∷ is (markingRefusal (counting 2 0 4_294_967_295) 1 W 2116 176) 0
+    ∷ is (markingRefusal (counting 15 2 4_294_967_295) 15 [] 0 0) 25
+    -- no candidate has the number, whatever the counts and the sheet are
+    ∷ is (markingRefusal (counting 2 0 0) 16 [] 0 0) 26
+    ∷ is (markingRefusal (counting 0 0 4_294_967_295) 16 [] 0 0) 26
+    ∷ is (markingRefusal (replicate 51 4_294_967_295) 16 [] 0 0) 26
+    ∷ is (markingRefusal (counting 2 0 0) 256 W 2116 176) 26
+    -- evaluation: 3, 4, 14 to 16, 18, 19
+    ∷ is (evaluationRefusal wAlphabet wAutomaton form 9) 0
+    ∷ is (evaluationRefusal wAlphabet wAutomaton form 8) 19
+    ∷ is (evaluationRefusal wAlphabet wAutomaton [] 0) 18
+    ∷ is (evaluationRefusal wAlphabet (set wAutomaton 2 0x03) [] 0) 16
+    ∷ is (evaluationRefusal wAlphabet [] [] 0) 14
+    ∷ is (evaluationRefusal (hex 3 0x000501) [] [] 0) 4
+    ∷ is (evaluationRefusal [] [] [] 0) 3
+    ∷ record { gives = relationsOf wAlphabet wAutomaton form; says = 1 ∷ 258 ∷ 1 ∷ 513 ∷ 256 ∷ 256 ∷ 2 ∷ 1 ∷ 0 ∷ [] }
+    ∷ is (formMask wAlphabet wAutomaton form) 1
+    -- size, unfolding, label and reading: 3, 4, 18, 19, then 20 or 21
+    ∷ is (sizeRefusal wAlphabet form 18) 0
+    ∷ is (sizeRefusal wAlphabet form 17) 19
+    ∷ is (sizeRefusal wAlphabet [] 0) 18
+    ∷ is (sizeRefusal [] [] 0) 3
+    ∷ record { gives = preorder (formTree wAlphabet form); says = hex 7 0x01020202020000 }
+    ∷ record { gives = countsOf wAlphabet form; says = 1 ∷ 0 ∷ 1 ∷ 1 ∷ 2 ∷ 1 ∷ 2 ∷ 2 ∷ 3 ∷ 2 ∷ 5 ∷ 4 ∷ 2 ∷ 0 ∷ 7 ∷ 0 ∷ 4 ∷ 0 ∷ [] }
+    ∷ is (unfoldingRefusal wAlphabet form 18 7) 0
+    ∷ is (unfoldingRefusal wAlphabet form 18 6) 20
+    ∷ is (unfoldingRefusal wAlphabet form 17 6) 19
+    ∷ is (labelRefusal wAlphabet form 6 18) 0
+    ∷ is (labelRefusal wAlphabet form 7 18) 21
+    ∷ is (labelRefusal wAlphabet form (2 ^ 64 - 1) 18) 21
+    ∷ is (labelRefusal wAlphabet form 7 17) 19
+    ∷ is (labelAt wAlphabet form 0) 0x01
+    ∷ is (labelAt wAlphabet form 4) 0x02
+    ∷ is (labelAt wAlphabet form 5) 0x00
+    ∷ is (readingRefusal wAlphabet form 8) 0
+    ∷ is (readingRefusal wAlphabet form 9) 21
+    ∷ is (readingRefusal wAlphabet [] 9) 18
+    -- walk: 3, 4, 14 to 16, 22, 23, 19; K9
+    ∷ is (walkRefusal wAlphabet wAutomaton (hex 2 0x0100) 2) 23
+    ∷ is (walkRefusal wAlphabet wAutomaton (hex 4 0x01020000) 4) 0
+    ∷ is (walkRefusal wAlphabet wAutomaton (hex 4 0x01020000) 3) 19
+    ∷ is (walkRefusal wAlphabet wAutomaton (hex 1 0x03) 0) 23
+    ∷ is (walkRefusal wAlphabet wAutomaton [] 0) 23
+    ∷ is (walkRefusal wAlphabet wAutomaton (replicate 4097 0x00) 0) 22
+    ∷ is (walkRefusal wAlphabet wAutomaton (replicate 4096 0x00) 0) 23
+    ∷ is (walkRefusal wAlphabet [] (replicate 4097 0x00) 0) 14
+    ∷ is (walkRefusal [] [] [] 0) 3
+    ∷ is (walkMask wAlphabet wAutomaton (hex 4 0x01020000)) 0
+    ∷ record { gives = walkMasks wAlphabet wAutomaton (hex 7 0x01020202020000); says = hex 7 0x01010201020101 }
+    -- wrap: 3, 4, 22, 23, 14 to 16, 24
+    ∷ is (wrapRefusal wAlphabet (hex 7 0x01020202020000) wAutomaton 50) 0
+    ∷ is (wrapRefusal wAlphabet (hex 7 0x01020202020000) wAutomaton 49) 24
+    ∷ is (wrapRefusal wAlphabet (hex 1 0x00) wAutomaton 0) 24
+    ∷ is (wrapRefusal wAlphabet (hex 1 0x00) [] 0) 14
+    ∷ is (wrapRefusal wAlphabet (hex 2 0x0100) [] 0) 23
+    ∷ is (wrapRefusal wAlphabet (replicate 129 0x00) [] 0) 22
+    ∷ is (wrapRefusal wAlphabet (replicate 128 0x02) [] 0) 23
+    ∷ is (wrapRefusal [] (replicate 129 0x00) [] 0) 3
+    ∷ record {
+      gives = wrapped wAlphabet (hex 4 0x01020000) wAutomaton;
+      says = hex 12 0x0C00_0300_0F00_0600_1500_1A00 ++ (wAlphabet ++ (hex 6 0x000401020000 ++ wAutomaton));
+    }
+    ∷ []
