@@ -1,2 +1,3 @@
--- The table that spreads sets of states.
+-- The table that spreads sets of states, and the identity.
 pub mod Spread
+pub mod Identity

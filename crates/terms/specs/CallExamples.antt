@@ -3,6 +3,7 @@ use mathlib.Core.List.{List, [], _∷_, _++_}
 use Prim.Native.Nat.{ℕ, _+_, _*_, _-_, _^_}
 use lib.ListN.{take, set, replicate}
 use Rattle.terms.specs.Tree.{preorder}
+use Rattle.terms.specs.Relation.{composeBits, applyBits}
 use Rattle.terms.specs.Sheet.{nodesOf, sheetMask, wrapped}
 use Rattle.terms.specs.FormBytes.{formTree}
 use Rattle.terms.specs.Calls.{makingRefusal, sheetMarkingRefusal, markingRefusal, openingRefusal, readingRefusal, evaluationRefusal, relationsOf, formMask, sizeRefusal, unfoldingRefusal, labelRefusal, labelAt, countsOf, walkRefusal, walkMask, walkMasks, wrapRefusal}
@@ -96,6 +97,25 @@ fieldRefusals =
     ∷ is (formWith 82 0x01) 18
     ∷ is (formWith 84 0x00) 18
     ∷ is (formWith 86 0x00) 18
+    ∷ []
+
+-- relations composed, the outer one named first, and applied to a set of states; bit 8 * p + q is the pair p, q (02 R-4)
+unfoldable pub composing : List CallRow
+composing =
+    -- the pair 1, 2 around the pair 0, 1, and the other way round
+    is (composeBits 0x400 0x02) 0x04
+    ∷ is (composeBits 0x02 0x400) 0
+    -- from 0 to 0 by way of 0 and by way of 1: one pair, where a sum gives 2 and an exclusive or 0
+    ∷ is (composeBits 0x0101 0x03) 0x01
+    ∷ is (applyBits 0x0101 0x03) 0x01
+    -- a relation around the identity
+    ∷ is (composeBits 0x0123_4567_89AB_CDEF 0x8040_2010_0804_0201) 0x0123_4567_89AB_CDEF
+    -- every pair, twice, around no pair, and applied to every state, to state 7, to none
+    ∷ is (composeBits 0xFFFF_FFFF_FFFF_FFFF 0xFFFF_FFFF_FFFF_FFFF) 0xFFFF_FFFF_FFFF_FFFF
+    ∷ is (composeBits 0xFFFF_FFFF_FFFF_FFFF 0) 0
+    ∷ is (applyBits 0xFFFF_FFFF_FFFF_FFFF 0xFF) 0xFF
+    ∷ is (applyBits 0xFFFF_FFFF_FFFF_FFFF 0x80) 0xFF
+    ∷ is (applyBits 0xFFFF_FFFF_FFFF_FFFF 0) 0
     ∷ []
 
 -- refusals 17 to 26, the order of each call's refusals, and what the calls on a form answer (01 Refusals, 02 R-1)
