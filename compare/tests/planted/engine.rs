@@ -20,6 +20,10 @@ pub enum Fault {
     ShortBeforeSheet,
     ConstantMask,
     WrongComposition,
+    ComposedBySum,
+    ComposedByExclusiveOr,
+    AppliedBySum,
+    AppliedByExclusiveOr,
     RelationsPastCleared,
     FormBeforeAutomaton,
     CountsWrittenOnLonger,
@@ -233,6 +237,9 @@ impl FixedCalls for Planted {
             return 18;
         }
         let code = Idiomatic.evaluate(alphabet, automaton, form, relations, mask);
+        if code == 0 {
+            self.join_by_fault(form, relations);
+        }
         if code == 0 && self.has(Fault::ConstantMask) {
             *mask = 1;
         }

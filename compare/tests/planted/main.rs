@@ -1,5 +1,6 @@
 //! The harness finds planted faults: each engine here is right but for one thing.
 
+mod composing;
 mod engine;
 mod marking;
 mod practice;
@@ -9,7 +10,7 @@ use compare::harness::run::run_generated;
 use engine::{Fault, Planted};
 
 /// Each fault and the call whose difference tells of it.
-const FAULTS: [(Fault, &str); 68] = [
+const FAULTS: [(Fault, &str); 72] = [
     (Fault::OldForm, "make_form"),
     (Fault::ConstantForm, "make_form"),
     (Fault::FormWritesPast, "make_form"),
@@ -22,6 +23,10 @@ const FAULTS: [(Fault, &str); 68] = [
     (Fault::ShortBeforeSheet, "make_form"),
     (Fault::ConstantMask, "evaluate"),
     (Fault::WrongComposition, "evaluate"),
+    (Fault::ComposedBySum, "evaluate"),
+    (Fault::ComposedByExclusiveOr, "evaluate"),
+    (Fault::AppliedBySum, "evaluate"),
+    (Fault::AppliedByExclusiveOr, "evaluate"),
     (Fault::RelationsPastCleared, "evaluate"),
     (Fault::FormBeforeAutomaton, "evaluate"),
     (Fault::CountsWrittenOnLonger, "unfold"),
