@@ -18,7 +18,11 @@
  *   ewf_make_form 11,188    ewf_mark 11,364      ewf_evaluate 3,304     ewf_size 152     ewf_label 33,016
  *   ewf_read_rule 56        ewf_unfold 329,760   ewf_walk 524,924       ewf_wrap 216     ewf_practice 168
  * Unfolding takes 144 bytes for each level of a form's rules, the walk 128 for each level of its tree. No other call goes deeper with
- * what it is given, save making and marking, which take 8,500 to 8,804 and 8,676 to 8,980 on the sheets W, K7 and billions of samples/. */
+ * what it is given, save making and marking, which take 8,500 to 8,804 and 8,676 to 8,980 on the sheets W, K7 and billions of samples/.
+ *
+ * Pace. Where ewf_evaluate and ewf_mark compose two relations (rules of kind 3), or apply one to a set of states (rules of kind 2), they run
+ * the same instructions whatever bits these have; link/pace tests this. How long matching a node with transitions takes (kinds 0 and 1)
+ * depends on the automaton and on the states of the node's children. */
 #ifndef EWERFLINT_H
 #define EWERFLINT_H
 

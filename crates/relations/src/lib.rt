@@ -1,5 +1,5 @@
 // Relations on eight states, a number of 64 bits each: bit 8 * p + q says that p goes to q.
-// Each is worked on whole, in lanes read from the table: no branch and no loop's end depends on a bit.
+// Each is worked on whole, in lanes read from the table: no branch and no loop's end depends on a bit (document 02, R-4), which `link/pace` tests.
 ghost use mathlib.Core.Path.{_≡_};
 ghost use mathlib.Core.Bool.{_&&_};
 ghost use Rattle.terms.specs.Automaton.{has};
@@ -8,7 +8,7 @@ ghost use Rattle.relations.specs.Spread.{Spreads};
 
 pub mod table;
 
-// Every state of `from` to every state of `to`: a lane with a 1 for each state of `from`, times `to`.
+// Every state of `from` to every state of `to`: a lane with a 1 for each state of `from`, times `to`, which fits a lane and so carries nothing into the next.
 fn pairs(table: &[u64; 256], from: u64, to: u64) -> u64
     requires { ⌜ Spreads (now table) ⌝ }
     ensures { λ r. ⌜ r ≡ matrix (λ p q. has from p && has to q) ⌝ }
@@ -28,7 +28,8 @@ fn transpose(table: &[u64; 256], relation: u64) -> u64
     columns
 }
 
-// First `inner`, then `outer`: for each state m, what goes to m in `inner`, to what m goes to in `outer`.
+// First `inner`, then `outer`: for each state m, what goes to m in `inner`, to what m goes to in `outer`. Two states may give the same pair, so the pairs of all
+// states are joined by *or*: a sum would carry.
 pub fn compose(table: &[u64; 256], outer: u64, inner: u64) -> u64
     requires { ⌜ Spreads (now table) ⌝ }
     ensures { λ r. ⌜ r ≡ composeBits outer inner ⌝ }
