@@ -5,7 +5,7 @@ use lib.ListN.{take, set, replicate}
 use Rattle.terms.specs.Tree.{preorder}
 use Rattle.terms.specs.Relation.{composeBits, applyBits}
 use Rattle.terms.specs.Sheet.{nodesOf, sheetMask, wrapped}
-use Rattle.terms.specs.FormBytes.{formTree}
+use Rattle.terms.specs.FormBytes.{headLength, ruleLength, formTree}
 use Rattle.terms.specs.Calls.{makingRefusal, sheetMarkingRefusal, markingRefusal, openingRefusal, readingRefusal, evaluationRefusal, relationsOf, formMask, sizeRefusal, unfoldingRefusal, labelRefusal, labelAt, countsOf, walkRefusal, walkMask, walkMasks, wrapRefusal}
 use Rattle.terms.specs.Examples.{hex, times, W, wWith, wAlphabet, wAutomaton, K7, K8}
 
@@ -29,9 +29,13 @@ form =
     hex 4 0x0900_0700
     ++ hex 108 0x00000000_FFFFFFFFFFFFFFFF_01020100_FFFFFFFFFFFFFFFF_01010100_FFFF0000FFFFFFFF_03FF0000_01000100FFFFFFFF_03FF0000_02000100FFFFFFFF_03FF0000_04000300FFFFFFFF_02FF0000_01000000FFFFFFFF_02FF0000_05000600FFFFFFFF_00010000_06000000FFFFFFFF
 
--- the refusal of the form with one byte set (01 Sheets for the desk)
-abbrev pub formWith : ℕ → ℕ → ℕ
-formWith i b = openingRefusal wAlphabet (set form i b)
+-- the refusal of the form with one byte of its head set (01 One-hole form)
+abbrev pub headWith : ℕ → ℕ → ℕ
+headWith k b = openingRefusal wAlphabet (set form k b)
+
+-- the refusal of the form with one byte of a rule set (01 One-hole form)
+abbrev pub ruleWith : ℕ → ℕ → ℕ → ℕ
+ruleWith rule k b = openingRefusal wAlphabet (set form (headLength + ruleLength * rule + k) b)
 
 -- the form's fields: all are in order, then one at a time is not (01 One-hole form)
 unfoldable pub fieldRefusals : List CallRow
@@ -47,56 +51,56 @@ fieldRefusals =
     ∷ is (openingRefusal (hex 2 0x0004) (hex 28 0x0200_0100_00000000_FFFFFFFFFFFFFFFF_00010000_0000000000000000)) 0
     ∷ is (openingRefusal (hex 2 0x0004) (hex 27 0x0200_0100_00000000_FFFFFFFFFFFFFFFF_00010000_00000000000000)) 18
     -- rule count: another, none, 2,049
-    ∷ is (formWith 0 0x08) 18
+    ∷ is (headWith 0 0x08) 18
     ∷ is (openingRefusal wAlphabet (hex 4 0x00000000)) 18
     ∷ is (openingRefusal wAlphabet (hex 4 0x0108_0000 ++ times 2049 (hex 12 0x00000000_FFFFFFFFFFFFFFFF))) 18
     -- start: not below R, of rank 1
-    ∷ is (formWith 2 0x09) 18
-    ∷ is (formWith 2 0x05) 18
+    ∷ is (headWith 2 0x09) 18
+    ∷ is (headWith 2 0x05) 18
     -- kind 0, rule 8: kind, terminal, terminal's rank, hole, fourth byte, slot not lower, slot of rank 1, used slot FFFF, unused slot not FFFF
-    ∷ is (formWith 100 0x04) 18
-    ∷ is (formWith 101 0x03) 18
-    ∷ is (formWith 101 0x02) 18
-    ∷ is (formWith 102 0x01) 18
-    ∷ is (formWith 103 0x01) 18
-    ∷ is (formWith 104 0x08) 18
-    ∷ is (formWith 106 0x01) 18
+    ∷ is (ruleWith 8 0 0x04) 18
+    ∷ is (ruleWith 8 1 0x03) 18
+    ∷ is (ruleWith 8 1 0x02) 18
+    ∷ is (ruleWith 8 2 0x01) 18
+    ∷ is (ruleWith 8 3 0x01) 18
+    ∷ is (ruleWith 8 4 0x08) 18
+    ∷ is (ruleWith 8 6 0x01) 18
     ∷ is (openingRefusal wAlphabet (take 106 form ++ replicate 6 0xFF)) 18
-    ∷ is (formWith 108 0x00) 18
-    ∷ is (formWith 111 0x00) 18
+    ∷ is (ruleWith 8 8 0x00) 18
+    ∷ is (ruleWith 8 11 0x00) 18
     -- kind 0, rule 0, whose slots are all unused: terminal, hole; rule 8 as kind 1 with hole 0, and with hole 3
-    ∷ is (formWith 5 0x03) 18
-    ∷ is (formWith 6 0x01) 18
-    ∷ is (formWith 100 0x01) 18
+    ∷ is (ruleWith 0 1 0x03) 18
+    ∷ is (ruleWith 0 2 0x01) 18
+    ∷ is (ruleWith 8 0 0x01) 18
     ∷ is (openingRefusal wAlphabet (set (set form 100 0x01) 102 0x03)) 18
     -- kind 1, rule 2: terminal, hole 0, hole past the rank, another hole, fourth byte, the hole's slot, the other slot, an unused slot
-    ∷ is (formWith 29 0x03) 18
-    ∷ is (formWith 30 0x00) 18
-    ∷ is (formWith 30 0x03) 18
-    ∷ is (formWith 30 0x02) 18
-    ∷ is (formWith 31 0x01) 18
-    ∷ is (formWith 32 0x00) 18
-    ∷ is (formWith 34 0x01) 18
-    ∷ is (formWith 35 0x01) 18
-    ∷ is (formWith 36 0x00) 18
+    ∷ is (ruleWith 2 1 0x03) 18
+    ∷ is (ruleWith 2 2 0x00) 18
+    ∷ is (ruleWith 2 2 0x03) 18
+    ∷ is (ruleWith 2 2 0x02) 18
+    ∷ is (ruleWith 2 3 0x01) 18
+    ∷ is (ruleWith 2 4 0x00) 18
+    ∷ is (ruleWith 2 6 0x01) 18
+    ∷ is (ruleWith 2 7 0x01) 18
+    ∷ is (ruleWith 2 8 0x00) 18
     -- kind 3, rule 5: terminal, hole, fourth byte, B not lower, B of rank 0, C of rank 0, unused slots
-    ∷ is (formWith 65 0x00) 18
-    ∷ is (formWith 66 0x01) 18
-    ∷ is (formWith 67 0x01) 18
-    ∷ is (formWith 68 0x05) 18
-    ∷ is (formWith 68 0x00) 18
-    ∷ is (formWith 70 0x00) 18
-    ∷ is (formWith 72 0x00) 18
-    ∷ is (formWith 74 0x00) 18
+    ∷ is (ruleWith 5 1 0x00) 18
+    ∷ is (ruleWith 5 2 0x01) 18
+    ∷ is (ruleWith 5 3 0x01) 18
+    ∷ is (ruleWith 5 4 0x05) 18
+    ∷ is (ruleWith 5 4 0x00) 18
+    ∷ is (ruleWith 5 6 0x00) 18
+    ∷ is (ruleWith 5 8 0x00) 18
+    ∷ is (ruleWith 5 10 0x00) 18
     -- kind 2, rule 6: terminal, hole, fourth byte, B of rank 0, C not lower, C of rank 1, unused slots
-    ∷ is (formWith 77 0x00) 18
-    ∷ is (formWith 78 0x01) 18
-    ∷ is (formWith 79 0x01) 18
-    ∷ is (formWith 80 0x00) 18
-    ∷ is (formWith 82 0x07) 18
-    ∷ is (formWith 82 0x01) 18
-    ∷ is (formWith 84 0x00) 18
-    ∷ is (formWith 86 0x00) 18
+    ∷ is (ruleWith 6 1 0x00) 18
+    ∷ is (ruleWith 6 2 0x01) 18
+    ∷ is (ruleWith 6 3 0x01) 18
+    ∷ is (ruleWith 6 4 0x00) 18
+    ∷ is (ruleWith 6 6 0x07) 18
+    ∷ is (ruleWith 6 6 0x01) 18
+    ∷ is (ruleWith 6 8 0x00) 18
+    ∷ is (ruleWith 6 10 0x00) 18
     ∷ []
 
 -- relations composed, the outer one named first, and applied to a set of states; bit 8 * p + q is the pair p, q (02 R-4)
