@@ -7,18 +7,22 @@
  * No pointer is null, also where the length is 0, and each is aligned for its type. What a call may write, slices and results, overlaps
  * nothing else that the call is given; what it only reads may overlap. Elements behind those that a call writes are kept.
  *
- * Lengths. G is the number of all right-side nodes of a sheet as written, parameters and dropped arguments included: the sum of the node
- * counts of its rules. R is the number of rules of a form, which EWF_RULES reads from its bytes. Who does not want to count lends the
- * largest lengths.
+ * Lengths. T is the number of terminals of an alphabet: a sheet's alphabet is its first body, T bytes. G is the number of all right-side
+ * nodes of a sheet as written, parameters and dropped arguments included: the sum of the node counts of its rules. R is the number of
+ * rules of a form, which EWF_RULES reads from its bytes. Who does not want to count lends the largest lengths.
+ *
+ * Alphabets. A form carries the alphabet that it is over, behind the rule count and the start: a byte for T, and a byte for the rank of
+ * each terminal. EWF_TERMINALS and EWF_ALPHABET read it. A form that is made carries the sheet's alphabet. Each call on a form is given an
+ * alphabet too, and is refused (28) where that is not the form's own, to the last rank, also of terminals that the form does not use.
  *
  * Threads and memory. A call keeps nothing behind: no state, no pointer, no heap. Calls may run at the same time on several threads,
  * where none writes what another one is given.
  *
  * Stack. The most bytes that each call was seen to take, on the inputs of link/stack.c, which go deepest; link/stack measures them anew.
- *   ewf_make_form 11,188    ewf_mark 11,364      ewf_evaluate 3,304     ewf_size 152     ewf_label 33,016
- *   ewf_read_rule 56        ewf_unfold 329,760   ewf_walk 524,924       ewf_wrap 216     ewf_practice 168
+ *   ewf_make_form 11,204    ewf_mark 11,396      ewf_evaluate 3,304     ewf_size 152     ewf_label 33,016
+ *   ewf_read_rule 88        ewf_unfold 329,744   ewf_walk 524,924       ewf_wrap 216     ewf_practice 168
  * Unfolding takes 144 bytes for each level of a form's rules, the walk 128 for each level of its tree. No other call goes deeper with
- * what it is given, save making and marking, which take 8,500 to 8,804 and 8,676 to 8,980 on the sheets W, K7 and billions of samples/.
+ * what it is given, save making and marking, which take 8,516 to 8,820 and 8,708 to 9,012 on the sheets W, K7 and billions of samples/.
  *
  * Pace. Where ewf_evaluate and ewf_mark compose two relations (rules of kind 3), or apply one to a set of states (rules of kind 2), they run
  * the same instructions whatever bits these have; link/pace tests this. How long matching a node with transitions takes (kinds 0 and 1)
@@ -52,7 +56,7 @@ enum ewf_refusal {
     EWF_STATES = 15,           /* the states or the final states are out of range */
     EWF_TRANSITION = 16,       /* a transition names something that does not exist */
     EWF_FORM_SHORT = 17,       /* the slice for the form is too short */
-    EWF_FORM = 18,             /* the bytes are no form that is valid for the alphabet */
+    EWF_FORM = 18,             /* the bytes are no form that is valid for the alphabet in its head */
     EWF_WORK_SHORT = 19,       /* a slice to work in is too short */
     EWF_TREE_SHORT = 20,       /* the slice for the tree is too short */
     EWF_NO_PLACE = 21,         /* the position is not below the size, or the rule's number not below R */
@@ -61,13 +65,14 @@ enum ewf_refusal {
     EWF_SHEET_SHORT = 24,      /* the slice for the sheet is too short */
     EWF_TALLY_FULL = 25,       /* some count of the candidate is 4,294,967,295 */
     EWF_CANDIDATE = 26,        /* the number of a candidate is over 15 */
-    EWF_DRAWN_RULES = 27       /* no rule of a practice sheet is to be drawn, or over 20 */
+    EWF_DRAWN_RULES = 27,      /* no rule of a practice sheet is to be drawn, or over 20 */
+    EWF_OTHER_ALPHABET = 28    /* the alphabet given is not the one in the form's head */
 };
 
-/* The lengths that calls ask for, in elements, by G and R. */
+/* The lengths that calls ask for, in elements, by T, G and R. */
 #define EWF_FORM_RULES(G) (16 * (size_t)(G))           /* the most rules of the form of a sheet; the numbers that marking asks for */
-#define EWF_FORM_LENGTH(R) (4 + 12 * (size_t)(R))      /* the bytes of a form of R rules */
-#define EWF_FORM_ASKED(G) EWF_FORM_LENGTH(EWF_FORM_RULES(G)) /* the bytes that form making and marking ask for */
+#define EWF_FORM_LENGTH(T, R) (5 + (size_t)(T) + 12 * (size_t)(R))     /* the bytes of a form of T terminals and R rules */
+#define EWF_FORM_ASKED(T, G) EWF_FORM_LENGTH(T, EWF_FORM_RULES(G))     /* the bytes that form making and marking ask for */
 #define EWF_RELATIONS(R) ((size_t)(R))                 /* the numbers that evaluation asks for */
 #define EWF_COUNTS(R) (2 * (size_t)(R))                /* the numbers that size, label and unfolding ask for */
 #define EWF_RULE_NUMBERS 7                             /* the numbers of a rule that is read */
@@ -79,14 +84,17 @@ enum ewf_refusal {
 #define EWF_DECLINED(candidate) (3 * (size_t)(candidate) + 1)
 #define EWF_TURNED_AWAY(candidate) (3 * (size_t)(candidate) + 2)
 
-/* R of a form that was made, or that some call did not refuse. */
+/* R, T and the alphabet of a form that was made, or that some call did not refuse. */
 #define EWF_RULES(form) ((size_t)(form)[0] + 256 * (size_t)(form)[1])
+#define EWF_TERMINALS(form) ((size_t)(form)[4])
+#define EWF_ALPHABET(form) ((form) + 5)
 
 /* The largest of each. */
 #define EWF_LONGEST_SHEET 1832
 #define EWF_MOST_NODES 128                             /* G of a sheet, and the nodes of a tree that is wrapped */
+#define EWF_MOST_TERMINALS 32                          /* T of an alphabet */
 #define EWF_MOST_RULES 2048                            /* R of a form */
-#define EWF_LONGEST_FORM EWF_FORM_LENGTH(EWF_MOST_RULES)
+#define EWF_LONGEST_FORM EWF_FORM_LENGTH(EWF_MOST_TERMINALS, EWF_MOST_RULES)
 #define EWF_MOST_COUNTS EWF_COUNTS(EWF_MOST_RULES)
 #define EWF_MOST_WALKED 4096                           /* the nodes of a tree that is walked */
 #define EWF_MOST_DRAWN 20                              /* the rules of a practice sheet that are drawn */
@@ -96,7 +104,7 @@ enum ewf_refusal {
 #define EWF_PRACTICE_ALPHABET {0, 1, 2}
 
 /* The one-hole form of a sheet, and its length.
- * form: EWF_FORM_ASKED(G) bytes, EWF_LONGEST_FORM at most.
+ * form: EWF_FORM_ASKED(T, G) bytes, EWF_LONGEST_FORM at most.
  * Refused by 1 to 16 (the sheet), 17. */
 uint8_t ewf_make_form(const uint8_t *sheet, size_t sheet_length,
                       uint8_t *form, size_t form_length,
@@ -104,7 +112,7 @@ uint8_t ewf_make_form(const uint8_t *sheet, size_t sheet_length,
 
 /* The mask of the states that runs on the form's tree end in: bit q for state q.
  * relations: EWF_RELATIONS(R) numbers; afterwards number i is the relation of rule i.
- * Refused by 3, 4 (the alphabet), 14, 15, 16 (the automaton), 18, 19. */
+ * Refused by 3, 4 (the alphabet), 14, 15, 16 (the automaton), 18, 28, 19. */
 uint8_t ewf_evaluate(const uint8_t *alphabet, size_t alphabet_length,
                      const uint8_t *automaton, size_t automaton_length,
                      const uint8_t *form, size_t form_length,
@@ -113,7 +121,7 @@ uint8_t ewf_evaluate(const uint8_t *alphabet, size_t alphabet_length,
 
 /* The form's tree in preorder, and how many nodes it has.
  * counts: EWF_COUNTS(R) numbers; tree: as many bytes as the tree has nodes, which ewf_size tells.
- * Refused by 3, 4, 18, 19 (counts), 20 (tree). */
+ * Refused by 3, 4, 18, 28, 19 (counts), 20 (tree). */
 uint8_t ewf_unfold(const uint8_t *alphabet, size_t alphabet_length,
                    const uint8_t *form, size_t form_length,
                    uint64_t *counts, size_t counts_length,
@@ -122,7 +130,7 @@ uint8_t ewf_unfold(const uint8_t *alphabet, size_t alphabet_length,
 
 /* How many nodes the form's tree has; UINT64_MAX represents "over", a size of 2^64 - 1 or more.
  * counts: EWF_COUNTS(R) numbers; afterwards numbers 2 i and 2 i + 1 are the nodes of rule i, and those before its open place.
- * Refused by 3, 4, 18, 19. */
+ * Refused by 3, 4, 18, 28, 19. */
 uint8_t ewf_size(const uint8_t *alphabet, size_t alphabet_length,
                  const uint8_t *form, size_t form_length,
                  uint64_t *counts, size_t counts_length,
@@ -130,7 +138,7 @@ uint8_t ewf_size(const uint8_t *alphabet, size_t alphabet_length,
 
 /* The terminal at a preorder position, the root being 0.
  * counts: EWF_COUNTS(R) numbers.
- * Refused by 3, 4, 18, 19, 21. */
+ * Refused by 3, 4, 18, 28, 19, 21. */
 uint8_t ewf_label(const uint8_t *alphabet, size_t alphabet_length,
                   const uint8_t *form, size_t form_length,
                   uint64_t position,
@@ -139,7 +147,7 @@ uint8_t ewf_label(const uint8_t *alphabet, size_t alphabet_length,
 
 /* The rule of a number: kind, terminal, hole and four slots.
  * rule: EWF_RULE_NUMBERS numbers.
- * Refused by 3, 4, 18, 19, 21. */
+ * Refused by 3, 4, 18, 28, 19, 21. */
 uint8_t ewf_read_rule(const uint8_t *alphabet, size_t alphabet_length,
                       const uint8_t *form, size_t form_length,
                       size_t number,
@@ -174,7 +182,7 @@ uint8_t ewf_practice(uint32_t first, size_t m,
 
 /* Marks a sheet of a candidate: verdict 1 accepted, 0 declined, and the mask. It ends as form making and evaluation leave form and
  * relations.
- * form: EWF_FORM_ASKED(G) bytes; relations: EWF_FORM_RULES(G) numbers, EWF_MOST_RULES at most; candidate: below EWF_CANDIDATES;
+ * form: EWF_FORM_ASKED(T, G) bytes; relations: EWF_FORM_RULES(G) numbers, EWF_MOST_RULES at most; candidate: below EWF_CANDIDATES;
  * tally: EWF_TALLY_COUNTS counts, of which that of the candidate and the answer goes up by one: accepted, declined, turned away (1 to 16).
  * The counts of other candidates are neither looked at nor changed.
  * Refused by 19 (a tally that is too short, before all else), 26 (the candidate), 25 (its counts), 1 to 16 (the sheet), 17,

@@ -1,4 +1,5 @@
-/* The calls on the sheet W of document 01: its mark, its form, and from the form the mask, the size, each label and the tree. */
+/* The calls on the sheet W of document 01: its mark, its form, and from the form the mask, the size, each label and the tree; then a call with the alphabet
+ * of another lesson. */
 #include <inttypes.h>
 #include <stdio.h>
 #include "ewerflint.h"
@@ -32,7 +33,7 @@ static int refused(const char *call, uint8_t refusal)
 
 static int mark_sheet(void)
 {
-    uint8_t form[EWF_FORM_ASKED(NODES)];
+    uint8_t form[EWF_FORM_ASKED(TERMINALS, NODES)];
     uint64_t relations[EWF_FORM_RULES(NODES)];
     uint32_t tally[EWF_TALLY_COUNTS] = {0};
     uint8_t verdict = 0;
@@ -97,14 +98,26 @@ static int unfold(const uint8_t *form, size_t length)
     return 0;
 }
 
+/* The alphabet of another lesson, in which f and h have each other's rank, is refused. */
+static int give_other_alphabet(const uint8_t *form, size_t length)
+{
+    static const uint8_t other[TERMINALS] = {0, 1, 2};
+    uint64_t counts[EWF_COUNTS(EWF_FORM_RULES(NODES))];
+    uint64_t size = 0;
+    uint8_t refusal = ewf_size(other, TERMINALS, form, length, counts, EWF_COUNTS(EWF_RULES(form)), &size);
+
+    printf("size with another alphabet: refused %u\n", (unsigned)refusal);
+    return refusal != EWF_OTHER_ALPHABET;
+}
+
 int main(void)
 {
-    uint8_t form[EWF_FORM_ASKED(NODES)];
+    uint8_t form[EWF_FORM_ASKED(TERMINALS, NODES)];
     size_t length = 0;
 
     if (mark_sheet() || refused("make form", ewf_make_form(W, sizeof W, form, sizeof form, &length))) {
         return 1;
     }
-    printf("form: %zu rules, %zu bytes\n", EWF_RULES(form), length);
-    return evaluate(form, length) || print_labels(form, length) || unfold(form, length);
+    printf("form: %zu rules, %zu terminals, %zu bytes\n", EWF_RULES(form), EWF_TERMINALS(form), length);
+    return evaluate(form, length) || print_labels(form, length) || unfold(form, length) || give_other_alphabet(form, length);
 }

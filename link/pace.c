@@ -7,6 +7,7 @@
 #include <signal.h>
 #include <stdio.h>
 #include <stdlib.h>
+#include <string.h>
 #include <ucontext.h>
 #include <x86intrin.h>
 #include "ewerflint.h"
@@ -124,9 +125,14 @@ static void make_automaton(void)
     add_drawn_pairs(LEAVES + MANY_DRAWN, 44);
 }
 
+static uint8_t *rule_at(size_t number)
+{
+    return form + EWF_FORM_LENGTH(EWF_TERMINALS(form), number);
+}
+
 static size_t add_rule(uint8_t kind, uint8_t terminal, uint8_t hole, size_t slot0, size_t slot1)
 {
-    uint8_t *rule = form + EWF_FORM_LENGTH(rules);
+    uint8_t *rule = rule_at(rules);
 
     rule[0] = kind;
     rule[1] = terminal;
@@ -187,6 +193,8 @@ static void add_meetings(uint8_t kind, const size_t inner[POOL])
 /* The rules of the terminals, then all of kind 3, then all of kind 2, so that nearly all of these follow a rule of their own kind. */
 static void make_form(void)
 {
+    form[4] = TERMINALS;
+    memcpy(EWF_ALPHABET(form), alphabet, sizeof alphabet);
     rules = 0;
     add_terminals();
     add_composed_relations();
@@ -239,7 +247,7 @@ static void evaluate_in_single_steps(void)
     uint8_t refusal;
 
     start_single_steps();
-    refusal = ewf_evaluate(alphabet, sizeof alphabet, automaton, automaton_length, form, EWF_FORM_LENGTH(rules), relations, EWF_MOST_RULES, &mask);
+    refusal = ewf_evaluate(alphabet, sizeof alphabet, automaton, automaton_length, form, EWF_FORM_LENGTH(TERMINALS, rules), relations, EWF_MOST_RULES, &mask);
     end_single_steps();
     require(refusal == EWF_NOT_REFUSED, "evaluation is refused");
     require(relations[contexts[NO_PAIR]] == 0, "no pair is to be one of the relations");
@@ -282,9 +290,9 @@ static void require_even(void)
 {
     require(stored == EWF_RULES(form), "not every entry was seen to be stored; does the machine stop after each instruction?");
     for (size_t i = 1; i < stored; i++) {
-        const uint8_t *rule = form + EWF_FORM_LENGTH(i);
+        const uint8_t *rule = rule_at(i);
 
-        if (rule[0] >= FILLED && rule[0] == form[EWF_FORM_LENGTH(i - 1)]) {
+        if (rule[0] >= FILLED && rule[0] == *rule_at(i - 1)) {
             require_pace(rule, paces[i].instructions, paces[i].path);
         }
     }

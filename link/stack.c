@@ -8,7 +8,7 @@
 #include <sys/mman.h>
 #include "ewerflint.h"
 
-enum { STACK = 4 << 20, PAINT = 0xA5, LEAF = 0, ONE = 1, TWO = 2, FOUR = 3, TERMINALS = 4 };
+enum { STACK = 4 << 20, PAINT = 0xA5, LEAF = 0, ONE = 1, TWO = 2, FOUR = 3, TERMINALS = 4, FORM_LENGTH = EWF_FORM_LENGTH(TERMINALS, EWF_MOST_RULES) };
 
 static const uint8_t alphabet[TERMINALS] = {0, 1, 2, 4};
 
@@ -21,7 +21,7 @@ static const uint8_t automaton[2 + 6 * TERMINALS] = {
     FOUR, 0, 0, 0, 0, 0,
 };
 
-static uint8_t form[EWF_LONGEST_FORM];
+static uint8_t form[FORM_LENGTH];
 static uint64_t numbers[EWF_MOST_COUNTS];
 static uint8_t tree[EWF_MOST_WALKED];
 static uint8_t masks[EWF_MOST_WALKED];
@@ -46,8 +46,10 @@ static void make_deep_form(void)
     form[1] = EWF_MOST_RULES / 256;
     form[2] = (EWF_MOST_RULES - 1) % 256;
     form[3] = (EWF_MOST_RULES - 1) / 256;
+    form[4] = TERMINALS;
+    memcpy(EWF_ALPHABET(form), alphabet, TERMINALS);
     for (size_t i = 0; i < EWF_MOST_RULES; i++) {
-        uint8_t *rule = form + EWF_FORM_LENGTH(i);
+        uint8_t *rule = form + EWF_FORM_LENGTH(TERMINALS, i);
 
         rule[0] = 0;
         rule[1] = i == 0 ? LEAF : ONE;

@@ -95,14 +95,15 @@ fn the_list_of_five_markings() {
 fn a_form_of_w_by_hand_may_be_made() {
     // a, h, hh, hhhh, hhhh(a), f(hhhh(a), a).
     let form = bytes(
-        "0600 0500 | 00 00 00 00 FFFF FFFF FFFF FFFF, 01 02 01 00 FFFF FFFF FFFF FFFF, \
+        "0600 0500 | 03 00 02 01 | \
+         00 00 00 00 FFFF FFFF FFFF FFFF, 01 02 01 00 FFFF FFFF FFFF FFFF, \
          03 FF 00 00 0100 0100 FFFF FFFF, 03 FF 00 00 0200 0200 FFFF FFFF, \
          02 FF 00 00 0300 0000 FFFF FFFF, 00 01 00 00 0400 0000 FFFF FFFF",
     );
     let facts = facts("K1 W");
     assert_eq!(facts.sheet.rule_bound(), 17);
     assert_eq!(making::check(&facts, &form), Ok(()));
-    let other = bytes("0100 0000 | 00 00 00 00 FFFF FFFF FFFF FFFF");
+    let other = bytes("0100 0000 | 03 00 02 01 | 00 00 00 00 FFFF FFFF FFFF FFFF");
     assert!(making::check(&facts, &other).is_err());
 }
 
@@ -111,7 +112,8 @@ fn composing_goes_from_hole_to_root() {
     // b takes 0 to 1 and c takes 1 to 2: c(b(y)) leads from 0 to 2, b(c(y)) nowhere.
     let automaton = bytes("03 04, 00 01 00 FF FF FF, 01 02 01 FF FF FF");
     let form = bytes(
-        "0500 0400 | 01 00 01 00 FFFF FFFF FFFF FFFF, 01 01 01 00 FFFF FFFF FFFF FFFF, \
+        "0500 0400 | 03 01 01 00 | \
+         01 00 01 00 FFFF FFFF FFFF FFFF, 01 01 01 00 FFFF FFFF FFFF FFFF, \
          03 FF 00 00 0100 0000 FFFF FFFF, 03 FF 00 00 0000 0100 FFFF FFFF, \
          00 02 00 00 FFFF FFFF FFFF FFFF",
     );

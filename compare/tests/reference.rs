@@ -16,8 +16,7 @@ fn small_forms(cases: u64) -> impl Iterator<Item = (Vec<u8>, Form, Random)> {
         let mut random = Random::of_case(11, case);
         let ranks = alphabets::alphabet(&mut random);
         let bytes = forms::form(&mut random, &ranks);
-        let alphabet = Alphabet::read(&ranks).expect("a lawful alphabet");
-        let form = Form::read(&alphabet, &bytes).expect("a lawful form");
+        let form = Form::read(&bytes).expect("a lawful form");
         let small = counts::of(&form).iter().all(|count| count.nodes < 200);
         small.then_some((ranks, form, random))
     })
@@ -88,8 +87,7 @@ fn relations_are_those_of_runs_over_what_rules_derive() {
 fn towers_have_the_size_asked_for() {
     for height in [0_u128, 1, 5, 4095, (1 << 64) - 3, (1 << 64) - 2, 1 << 64] {
         let bytes = forms::tower(&mut Random::new(1), &[0, 1], height);
-        let alphabet = Alphabet::read(&[0, 1]).expect("a lawful alphabet");
-        let form = Form::read(&alphabet, &bytes).expect("a lawful form");
+        let form = Form::read(&bytes).expect("a lawful form");
         let size = counts::of(&form)[form.start].nodes;
         assert_eq!(u128::from(size), (height + 1).min(u128::from(u64::MAX)));
     }

@@ -33,7 +33,7 @@ fn the_examples() {
 fn nodes_are_counted_as_written() {
     let longest = facts(&long(128));
     assert_eq!((longest.sheet.node_count(), longest.whole.length), (128, 1));
-    assert_eq!((longest.form_need(), longest.relations_need()), (24_580, 2048));
+    assert_eq!((longest.form_need(), longest.relations_need()), (24_584, 2048));
     assert_eq!(Facts::of(&sheet(&long(129), LEAVES)).err(), Some(Refusal(7)));
 }
 
@@ -116,14 +116,15 @@ fn calls_in_dropped_arguments_do_not_count() {
     assert!(calls_every_rule("00 01 00"));
 }
 
-/// a, and h over it.
+/// W's alphabet in a head; a, and h over it.
+const ALPHABET: &str = "03 00 02 01";
 const LEAF: &str = "00 00 00 00 FFFF FFFF FFFF FFFF";
 const OVER: &str = "00 02 00 00 0000 FFFF FFFF FFFF";
 
 #[test]
 fn no_rule_of_a_form_stands_for_what_is_dropped() {
-    let one = bytes(&format!("0100 0000 {LEAF}"));
-    let two = bytes(&format!("0200 0000 {LEAF} {OVER}"));
+    let one = bytes(&format!("0100 0000 {ALPHABET} {LEAF}"));
+    let two = bytes(&format!("0200 0000 {ALPHABET} {LEAF} {OVER}"));
     let dropped = facts("02 01 80, 00 04 40 00 02 00");
     assert_eq!(making::check(&dropped, &one), Ok(()));
     let told = making::check(&dropped, &two).expect_err("h(a) is dropped");

@@ -2,6 +2,7 @@
 
 use super::alphabets;
 use super::random::Random;
+use crate::reference::head;
 
 const UNUSED: u16 = 0xFFFF;
 
@@ -13,19 +14,25 @@ struct Row {
     slots: [u16; 4],
 }
 
-/// A form in the making: its rules, and the numbers of those of rank 0 and of rank 1.
-#[derive(Default)]
-struct FormPlan {
+/// A form in the making: its alphabet, its rules, and the numbers of those of rank 0 and of rank 1.
+struct FormPlan<'a> {
+    alphabet: &'a [u8],
     rows: Vec<Row>,
     trees: Vec<u16>,
     contexts: Vec<u16>,
 }
 
-impl FormPlan {
+impl FormPlan<'_> {
+    fn over(alphabet: &[u8]) -> FormPlan<'_> {
+        FormPlan { alphabet, rows: Vec::new(), trees: Vec::new(), contexts: Vec::new() }
+    }
+
     fn bytes(&self, start: u16) -> Vec<u8> {
         let mut bytes = Vec::new();
         bytes.extend((self.rows.len() as u16).to_le_bytes());
         bytes.extend(start.to_le_bytes());
+        bytes.push(self.alphabet.len() as u8);
+        bytes.extend(self.alphabet);
         for row in &self.rows {
             bytes.extend([row.kind, row.terminal, row.hole, 0]);
             bytes.extend(row.slots.iter().flat_map(|slot| slot.to_le_bytes()));
@@ -49,9 +56,9 @@ impl FormPlan {
     }
 
     /// A terminal over picked rules of rank 0, with an open place if there is a hole.
-    fn node(&mut self, random: &mut Random, alphabet: &[u8], terminal: u8, hole: u8) -> u16 {
+    fn node(&mut self, random: &mut Random, terminal: u8, hole: u8) -> u16 {
         let mut slots = [UNUSED; 4];
-        for place in 0..alphabet[usize::from(terminal)] {
+        for place in 0..self.alphabet[usize::from(terminal)] {
             if place + 1 != hole {
                 slots[usize::from(place)] = *random.pick_late(&self.trees);
             }
@@ -60,7 +67,8 @@ impl FormPlan {
     }
 
     /// One more rule, of a kind that the rules so far allow.
-    fn grow(&mut self, random: &mut Random, alphabet: &[u8]) {
+    fn grow(&mut self, random: &mut Random) {
+        let alphabet = self.alphabet;
         let mut terminal = random.below(alphabet.len()) as u8;
         if alphabet[usize::from(terminal)] == 0 {
             // Leaves are drawn twice, or the trees would stay small.
@@ -70,7 +78,7 @@ impl FormPlan {
         match random.below(4) {
             1 if rank > 0 => {
                 let hole = random.between(1, rank) as u8;
-                self.node(random, alphabet, terminal, hole);
+                self.node(random, terminal, hole);
             }
             2 if !self.contexts.is_empty() => {
                 let (outer, inner) =
@@ -83,7 +91,7 @@ impl FormPlan {
                 self.pair(3, outer, inner);
             }
             _ => {
-                self.node(random, alphabet, terminal, 0);
+                self.node(random, terminal, 0);
             }
         }
     }
@@ -97,12 +105,12 @@ pub fn form(random: &mut Random, alphabet: &[u8]) -> Vec<u8> {
         2 | 3 => random.between(1, 120),
         _ => random.between(1, 30),
     };
-    let mut plan = FormPlan::default();
+    let mut plan = FormPlan::over(alphabet);
     let leaves = alphabets::of_rank(alphabet, 0);
     let leaf = *random.pick(&leaves);
-    plan.node(random, alphabet, leaf, 0);
+    plan.node(random, leaf, 0);
     while plan.rows.len() < count {
-        plan.grow(random, alphabet);
+        plan.grow(random);
     }
     let start = *random.pick_late(&plan.trees);
     plan.bytes(start)
@@ -111,14 +119,14 @@ pub fn form(random: &mut Random, alphabet: &[u8]) -> Vec<u8> {
 /// A lawful form whose tree is a leaf under so many copies of a context, over an alphabet with
 /// terminals of ranks 0 and 1.
 pub fn tower(random: &mut Random, alphabet: &[u8], height: u128) -> Vec<u8> {
-    let mut plan = FormPlan::default();
+    let mut plan = FormPlan::over(alphabet);
     let leaves = alphabets::of_rank(alphabet, 0);
     let leaf = *random.pick(&leaves);
-    let mut tree = plan.node(random, alphabet, leaf, 0);
+    let mut tree = plan.node(random, leaf, 0);
     let over = (0..alphabet.len() as u8).filter(|&it| alphabet[usize::from(it)] > 0);
     let terminal = *random.pick(&over.collect::<Vec<u8>>());
     let hole = random.between(1, usize::from(alphabet[usize::from(terminal)])) as u8;
-    let mut context = plan.node(random, alphabet, terminal, hole);
+    let mut context = plan.node(random, terminal, hole);
     let mut left = height;
     while left > 0 {
         if left % 2 == 1 {
@@ -128,6 +136,12 @@ pub fn tower(random: &mut Random, alphabet: &[u8], height: u128) -> Vec<u8> {
         left /= 2;
     }
     plan.bytes(tree)
+}
+
+/// Whether some rule of the form has the terminal.
+pub fn uses(form: &[u8], terminal: u8) -> bool {
+    let rules = form.get(head::end(form)..).unwrap_or_default();
+    rules.chunks_exact(12).any(|rule| rule[0] < 2 && rule[1] == terminal)
 }
 
 /// A height of a tower, often near a limit of sizes.

@@ -2,10 +2,9 @@
 
 use super::checker::Checker;
 use super::difference::Checked;
+use crate::generate::form_inputs::{self, FormInput};
 use crate::generate::random::Random;
-use crate::generate::{
-    alphabets, automata, bytes, damage, form_damage, forms, practice, sheets, trees,
-};
+use crate::generate::{alphabets, automata, bytes, damage, practice, sheets, trees};
 
 impl Checker<'_> {
     pub fn case(&mut self, random: &mut Random) -> Checked<()> {
@@ -23,39 +22,16 @@ impl Checker<'_> {
                 let sheet = damage::noise(random);
                 self.sheet(random, &sheet)
             }
-            10..=12 => self.form_case(random),
+            10..=12 => {
+                let FormInput { alphabet, automaton, form } = form_inputs::input(random);
+                self.form(random, &alphabet, &automaton, &form)
+            }
             13..=15 => self.tree_case(random),
             _ => {
                 let practice = practice::practice(random);
                 self.practice(random, &practice)
             }
         }
-    }
-
-    fn form_case(&mut self, random: &mut Random) -> Checked<()> {
-        let (alphabet, form) = match random.below(4) {
-            0 => {
-                let alphabet = alphabets::alphabet_with_chain(random);
-                let height = forms::height(random);
-                let form = forms::tower(random, &alphabet, height);
-                (alphabet, form)
-            }
-            _ => {
-                let alphabet = alphabets::alphabet(random);
-                let form = forms::form(random, &alphabet);
-                (alphabet, form)
-            }
-        };
-        let form = match random.below(8) {
-            0..=2 => form_damage::damaged(random, &form),
-            3 => {
-                let length = random.below(60);
-                random.bytes(length)
-            }
-            _ => form,
-        };
-        let (alphabet, automaton) = surroundings(random, alphabet);
-        self.form(random, &alphabet, &automaton, &form)
     }
 
     fn tree_case(&mut self, random: &mut Random) -> Checked<()> {

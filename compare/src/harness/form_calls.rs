@@ -5,6 +5,7 @@ use super::difference::Checked;
 use super::lending::{Lent, around, enough};
 use super::request::Request;
 use crate::generate::random::Random;
+use crate::reference::head::rules_behind;
 
 /// Longer trees are not written out.
 const MOST: u64 = 8192;
@@ -17,7 +18,7 @@ impl Checker<'_> {
         automaton: &[u8],
         form: &[u8],
     ) -> Checked<()> {
-        let count = form.len().saturating_sub(4) / 12;
+        let count = rules_behind(form);
         for relations in [enough(random, count), around(random, count)] {
             let lent = Lent::new(random, 0, relations);
             self.request(Request::Evaluate { alphabet, automaton, form }, lent)?;

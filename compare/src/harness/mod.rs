@@ -10,6 +10,7 @@ pub mod list;
 pub mod making;
 pub mod marking;
 pub mod named;
+pub mod named_alphabets;
 pub mod named_markings;
 pub mod named_practice;
 pub mod named_wide;

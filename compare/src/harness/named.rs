@@ -6,6 +6,7 @@ use super::lending::Lent;
 use super::request::Request;
 use crate::generate::random::Random;
 use crate::reference::facts::Facts;
+use crate::reference::head::rules_behind;
 use crate::reference::sheet::Sheet;
 use crate::rows;
 
@@ -51,6 +52,7 @@ impl Checker<'_> {
         self.named_wide(random)?;
         self.named_markings(random, &w)?;
         self.named_form_calls(random, &w)?;
+        self.named_alphabets(random)?;
         self.named_tree_calls(random, &w)?;
         self.named_practice(random)
     }
@@ -59,9 +61,9 @@ impl Checker<'_> {
     fn named_form_calls(&mut self, random: &mut Random, w: &[u8]) -> Checked<()> {
         let alphabet = &Sheet::read(w).expect("a lawful sheet").alphabet_body;
         let facts = Facts::of(w);
-        self.make_form(w, &facts, &Lent::new(random, 2115, 0))?;
-        let form = self.make_form(w, &facts, &Lent::new(random, 2116, 0))?.unwrap_or_default();
-        let count = form.len().saturating_sub(4) / 12;
+        self.make_form(w, &facts, &Lent::new(random, 2119, 0))?;
+        let form = self.make_form(w, &facts, &Lent::new(random, 2120, 0))?.unwrap_or_default();
+        let count = rules_behind(&form);
         let size = Request::Size { alphabet, form: &form[..3.min(form.len())] };
         let unfold = Request::Unfold { alphabet, form: &form };
         let label = Request::Label { alphabet, form: &form, position: 7 };

@@ -9,6 +9,7 @@ use crate::generate::random::Random;
 use crate::hex::hex;
 use crate::reference::described::Described;
 use crate::reference::facts::Facts;
+use crate::reference::head::rules_behind;
 use crate::reference::practice::{ALPHABET, drawn, rules};
 use crate::refusal::{Answer, Refusal};
 
@@ -68,7 +69,7 @@ impl Checker<'_> {
     /// The form of a written sheet has the size of the tree that the draws describe and, where
     /// that is small, unfolds to it.
     fn unfolds(&mut self, random: &mut Random, described: &Described, form: &[u8]) -> Checked<()> {
-        let counts = 2 * (form.len().saturating_sub(4) / 12);
+        let counts = 2 * rules_behind(form);
         let size = Request::Size { alphabet: &ALPHABET, form };
         let lent = Lent::new(random, 0, counts);
         let (_, found) = self.request(size, lent.clone())?;

@@ -4,10 +4,12 @@ use super::checker::Checker;
 use super::difference::{Checked, Difference};
 use super::lending::{Lending, Lent, around, enough};
 use super::marking::Marking;
+use crate::generate::form_inputs::automaton_beside;
 use crate::generate::random::Random;
-use crate::generate::{form_damage, tallies};
+use crate::generate::{form_damage, other_alphabets, tallies};
 use crate::hex::hex;
 use crate::reference::facts::Facts;
+use crate::reference::head::LONGEST_FORM;
 use crate::reference::tally::COUNTS;
 use crate::refusal::Answer;
 
@@ -17,7 +19,7 @@ impl Checker<'_> {
         let length = match &facts {
             Ok(known) => around(random, known.form_need()),
             // Too short a slice must not be told before 1 to 16.
-            Err(_) => *random.pick(&[0, 3, 100, 24_580]),
+            Err(_) => *random.pick(&[0, 3, 100, LONGEST_FORM]),
         };
         self.make_form(sheet, &facts, &Lent::new(random, length, 0))?;
         if let Ok(known) = &facts {
@@ -47,13 +49,19 @@ impl Checker<'_> {
         Ok(first.unwrap_or_default())
     }
 
-    /// The calls on the sheet's form and tree.
+    /// The calls on the sheet's form, also with a damaged one and with another alphabet, and on its
+    /// tree.
     fn follow(&mut self, random: &mut Random, known: &Facts, form: &[u8]) -> Checked<()> {
         let (alphabet, automaton) = (&known.sheet.alphabet_body, &known.sheet.automaton_body);
         self.form(random, alphabet, automaton, form)?;
         if random.one_in(3) {
             let form = form_damage::damaged(random, form);
             self.form(random, alphabet, automaton, &form)?;
+        }
+        if random.one_in(3) {
+            let other = other_alphabets::other(random, form);
+            let automaton = automaton_beside(random, &other, form);
+            self.form(random, &other, &automaton, form)?;
         }
         if let Some(tree) = &known.tree {
             self.tree(random, alphabet, automaton, tree)?;

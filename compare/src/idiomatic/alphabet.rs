@@ -2,7 +2,7 @@
 
 use crate::refusal::{Answer, Refusal};
 
-#[derive(Clone, Copy)]
+#[derive(Clone, Copy, PartialEq)]
 pub struct Alphabet<'a>(&'a [u8]);
 
 impl<'a> Alphabet<'a> {
@@ -12,6 +12,10 @@ impl<'a> Alphabet<'a> {
             1..=32 => Err(Refusal(4)),
             _ => Err(Refusal(3)),
         }
+    }
+
+    pub fn ranks(self) -> &'a [u8] {
+        self.0
     }
 
     pub fn rank(self, terminal: u8) -> Option<usize> {

@@ -19,7 +19,7 @@ pub struct Idiomatic;
 
 fn made(sheet: &[u8], form: &mut [u8]) -> Answer<usize> {
     let sheet = Sheet::read(sheet)?;
-    if form.len() < 4 + 192 * sheet.nodes {
+    if form.len() < sheet.form_need() {
         return Err(Refusal(17));
     }
     Ok(making::form(&sheet).write(form))
@@ -75,11 +75,8 @@ fn labelled(alphabet: &[u8], form: &[u8], position: u64, lent: &mut [u64]) -> An
 }
 
 fn read(alphabet: &[u8], bytes: &[u8], number: usize) -> Answer<[u16; 7]> {
-    let form = Form::read(Alphabet::read(alphabet)?, bytes)?;
-    if number >= form.rules.len() {
-        return Err(Refusal(21));
-    }
-    Ok(fields(&bytes[4 + 12 * number..]))
+    let (_, rows) = Form::open(Alphabet::read(alphabet)?, bytes)?;
+    rows.get(number).map(fields).ok_or(Refusal(21))
 }
 
 fn walked(alphabet: &[u8], automaton: &[u8], tree: &[u8], masks: &mut [u8]) -> Answer<u8> {

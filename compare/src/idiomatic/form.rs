@@ -5,6 +5,19 @@ use crate::refusal::{Answer, Refusal};
 
 const UNUSED: u16 = 0xFFFF;
 
+/// The bytes of sixteen rules, since no form made has more for each node of the sheet.
+const BYTES_FOR_A_NODE: usize = 16 * 12;
+
+/// The bytes of the head: rule count, start, terminal count and ranks.
+fn head_length(alphabet: Alphabet) -> usize {
+    5 + alphabet.ranks().len()
+}
+
+/// The bytes that making a form of a sheet of so many nodes asks for.
+pub fn need(alphabet: Alphabet, nodes: usize) -> usize {
+    head_length(alphabet) + BYTES_FOR_A_NODE * nodes
+}
+
 #[derive(Clone, Copy)]
 pub enum FormRule {
     Tree { terminal: u8, slots: [u16; 4] },
@@ -30,20 +43,34 @@ impl FormRule {
     }
 }
 
-pub struct Form {
+pub struct Form<'a> {
+    pub alphabet: Alphabet<'a>,
     pub rules: Vec<FormRule>,
     pub start: u16,
 }
 
-impl Form {
-    pub fn read(alphabet: Alphabet, bytes: &[u8]) -> Answer<Self> {
-        Form::parse(alphabet, bytes).ok_or(Refusal(18))
+impl<'a> Form<'a> {
+    /// Refusal 18 by the form's own head, then 28.
+    pub fn read(given: Alphabet, bytes: &'a [u8]) -> Answer<Self> {
+        let (form, _) = Form::open(given, bytes)?;
+        Ok(form)
     }
 
-    fn parse(alphabet: Alphabet, bytes: &[u8]) -> Option<Self> {
-        let (head, body) = bytes.split_first_chunk::<4>()?;
-        let count = usize::from(u16::from_le_bytes([head[0], head[1]]));
-        let start = u16::from_le_bytes([head[2], head[3]]);
+    /// The form and the bytes of its rules.
+    pub fn open(given: Alphabet, bytes: &'a [u8]) -> Answer<(Self, &'a [[u8; 12]])> {
+        let (form, rows) = Form::parse(bytes).ok_or(Refusal(18))?;
+        if form.alphabet != given {
+            return Err(Refusal(28));
+        }
+        Ok((form, rows))
+    }
+
+    fn parse(bytes: &'a [u8]) -> Option<(Self, &'a [[u8; 12]])> {
+        let (&[a, b, c, d, terminals], rest) = bytes.split_first_chunk()?;
+        let (ranks, body) = rest.split_at_checked(terminals.into())?;
+        let alphabet = Alphabet::read(ranks).ok()?;
+        let count = usize::from(u16::from_le_bytes([a, b]));
+        let start = u16::from_le_bytes([c, d]);
         let (rows, []) = body.as_chunks::<12>() else {
             return None;
         };
@@ -56,15 +83,19 @@ impl Form {
             rules.push(rule);
         }
         let started = rules.get(usize::from(start))?;
-        (!started.is_context()).then_some(Form { rules, start })
+        (!started.is_context()).then_some((Form { alphabet, rules, start }, rows))
     }
 
     /// Writes the form at the slice's front and answers its length.
     pub fn write(&self, slice: &mut [u8]) -> usize {
-        let length = 4 + 12 * self.rules.len();
+        let ranks = self.alphabet.ranks();
+        let head = head_length(self.alphabet);
+        let length = head + 12 * self.rules.len();
         slice[..2].copy_from_slice(&(self.rules.len() as u16).to_le_bytes());
         slice[2..4].copy_from_slice(&self.start.to_le_bytes());
-        for (place, rule) in slice[4..length].chunks_exact_mut(12).zip(&self.rules) {
+        slice[4] = ranks.len() as u8;
+        slice[5..head].copy_from_slice(ranks);
+        for (place, rule) in slice[head..length].chunks_exact_mut(12).zip(&self.rules) {
             place.copy_from_slice(&rule.bytes());
         }
         length
@@ -72,7 +103,7 @@ impl Form {
 }
 
 /// The kind, terminal, hole and slots of a rule's bytes.
-pub fn fields(row: &[u8]) -> [u16; 7] {
+pub fn fields(row: &[u8; 12]) -> [u16; 7] {
     let slot = |place: usize| u16::from_le_bytes([row[place], row[place + 1]]);
     [row[0].into(), row[1].into(), row[2].into(), slot(4), slot(6), slot(8), slot(10)]
 }

@@ -29,12 +29,12 @@ struct Maker<'s> {
 }
 
 /// A form that derives the sheet's tree.
-pub fn form(sheet: &Sheet) -> Form {
+pub fn form<'a>(sheet: &Sheet<'a>) -> Form<'a> {
     form_by(sheet, |_: &Rule, kept: &[u8]| parameters(kept))
 }
 
 /// The form where cleaning leaves each rule with the parameters that are told.
-pub fn form_by(sheet: &Sheet, present_in: impl Fn(&Rule, &[u8]) -> u8) -> Form {
+pub fn form_by<'a>(sheet: &Sheet<'a>, present_in: impl Fn(&Rule, &[u8]) -> u8) -> Form<'a> {
     if sheet.is_clean {
         return form_of(sheet.alphabet, &sheet.rules);
     }
@@ -44,7 +44,7 @@ pub fn form_by(sheet: &Sheet, present_in: impl Fn(&Rule, &[u8]) -> u8) -> Form {
 
 /// The form of rules that need no cleaning, unless for a rule that is one parameter and never
 /// called.
-fn form_of(alphabet: Alphabet, sheet_rules: &[Rule]) -> Form {
+fn form_of<'a>(alphabet: Alphabet<'a>, sheet_rules: &[Rule]) -> Form<'a> {
     let mut maker = Maker {
         alphabet,
         sheet_rules,
@@ -57,7 +57,7 @@ fn form_of(alphabet: Alphabet, sheet_rules: &[Rule]) -> Form {
         maker.skeletons.push(skeleton);
     }
     match maker.skeletons.last().map(|&start| maker.cells[start]) {
-        Some(Cell::Shut(start)) => Form { rules: maker.rules, start },
+        Some(Cell::Shut(start)) => Form { alphabet, rules: maker.rules, start },
         _ => unreachable!("the start has no parameters"),
     }
 }

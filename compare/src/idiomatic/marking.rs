@@ -31,7 +31,7 @@ pub fn mark(
 ) -> Answer<Mark> {
     let [accepted, declined, turned_away] = counts(tally, candidate)?;
     let sheet = Sheet::read(bytes).inspect_err(|_| *turned_away += 1)?;
-    if form.len() < 4 + 192 * sheet.nodes {
+    if form.len() < sheet.form_need() {
         return Err(Refusal(17));
     }
     if relations.len() < 16 * sheet.nodes {

@@ -2,6 +2,7 @@
 
 use super::alphabet::Alphabet;
 use super::automaton::Automaton;
+use super::form::need;
 use super::preorder::is_one_tree;
 use crate::refusal::{Answer, Refusal};
 
@@ -38,6 +39,11 @@ impl<'a> Sheet<'a> {
         }
         let automaton = Automaton::read(alphabet, automaton)?;
         Ok(Sheet { alphabet, rules, automaton, nodes, is_clean })
+    }
+
+    /// The bytes that making the form asks for.
+    pub fn form_need(&self) -> usize {
+        need(self.alphabet, self.nodes)
     }
 }
 

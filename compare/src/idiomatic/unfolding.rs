@@ -4,7 +4,7 @@ use super::counts::Count;
 use super::form::{Form, FormRule};
 
 pub struct Unfolder<'a> {
-    pub form: &'a Form,
+    pub form: &'a Form<'a>,
     pub counts: &'a [Count],
     pub tree: &'a mut [u8],
 }

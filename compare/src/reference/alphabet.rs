@@ -2,6 +2,8 @@
 
 use crate::refusal::{Answer, Refusal};
 
+/// Two alphabets are the same when they have as many terminals, each of the same rank.
+#[derive(PartialEq, Eq)]
 pub struct Alphabet {
     ranks: Vec<usize>,
 }

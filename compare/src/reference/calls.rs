@@ -21,7 +21,7 @@ pub fn evaluate(
 ) -> Answer<u8> {
     let alphabet = Alphabet::read(alphabet)?;
     let automaton = Automaton::read(&alphabet, automaton)?;
-    let form = Form::read(&alphabet, form)?;
+    let form = Form::read_over(&alphabet, form)?;
     let entries = relations::of(&automaton, &form);
     room(relations, entries.len(), 19)?;
     put(relations, &entries);
@@ -56,9 +56,7 @@ pub fn label(alphabet: &[u8], form: &[u8], position: u64, counts: &mut [u64]) ->
 }
 
 pub fn read_rule(alphabet: &[u8], form: &[u8], number: usize) -> Answer<[u16; 7]> {
-    let alphabet = Alphabet::read(alphabet)?;
-    let read = Form::read(&alphabet, form)?;
-    if number >= read.rules.len() {
+    if number >= opened(alphabet, form)?.rules.len() {
         return Err(Refusal(21));
     }
     Ok(form::fields(form, number))
@@ -111,10 +109,14 @@ pub fn joined(bodies: &[&[u8]; 3]) -> Vec<u8> {
     sheet
 }
 
-/// Refusals 3, 4, 18 and 19 of unfolding, size and label.
+/// Refusals 3, 4, 18 and 28 of every call on a form but evaluation.
+fn opened(alphabet: &[u8], form: &[u8]) -> Answer<Form> {
+    Form::read_over(&Alphabet::read(alphabet)?, form)
+}
+
+/// The same and then 19, of unfolding, size and label.
 fn counted(alphabet: &[u8], form: &[u8], counts: &[u64]) -> Answer<(Form, Vec<Count>)> {
-    let alphabet = Alphabet::read(alphabet)?;
-    let form = Form::read(&alphabet, form)?;
+    let form = opened(alphabet, form)?;
     let found = counts::of(&form);
     room(counts, 2 * found.len(), 19)?;
     Ok((form, found))

@@ -2,6 +2,7 @@
 
 use super::derivation;
 use super::fingerprint::Fingerprint;
+use super::head;
 use super::profile::Profiles;
 use super::sheet::Sheet;
 use super::theorem;
@@ -37,9 +38,9 @@ impl Facts {
         self.mask & self.sheet.automaton.finals != 0
     }
 
-    /// The bytes that form making asks for.
+    /// The bytes that form making asks for: those of the head and of sixteen rules for each node.
     pub fn form_need(&self) -> usize {
-        4 + 192 * self.sheet.node_count()
+        head::length(self.sheet.alphabet_body.len()) + 192 * self.sheet.node_count()
     }
 
     /// The numbers that marking asks for.

@@ -1,6 +1,7 @@
-//! The one-hole form: reading its bytes and checking them against an alphabet.
+//! The one-hole form: reading its bytes and checking them against the alphabet in its head.
 
 use super::alphabet::Alphabet;
+use super::head::{self, Head, word};
 use crate::refusal::{Answer, Refusal};
 
 /// A child of a form rule's terminal.
@@ -45,14 +46,25 @@ impl FormRule {
 }
 
 pub struct Form {
+    /// The alphabet in the head, which the rules are read against.
+    pub alphabet: Alphabet,
     pub rules: Vec<FormRule>,
     pub start: usize,
 }
 
 impl Form {
-    /// Refusal 18.
-    pub fn read(alphabet: &Alphabet, bytes: &[u8]) -> Answer<Form> {
-        parse(alphabet, bytes).ok_or(Refusal(18))
+    /// Refusal 18, which looks at the form's own bytes alone.
+    pub fn read(bytes: &[u8]) -> Answer<Form> {
+        parse(bytes).ok_or(Refusal(18))
+    }
+
+    /// Refusal 18, then 28: the form's alphabet is another than the one given with a call.
+    pub fn read_over(given: &Alphabet, bytes: &[u8]) -> Answer<Form> {
+        let form = Form::read(bytes)?;
+        if form.alphabet != *given {
+            return Err(Refusal(28));
+        }
+        Ok(form)
     }
 
     /// Of each rule, whether the start is that rule or calls it, directly or through others.
@@ -70,31 +82,28 @@ impl Form {
 
 /// The kind, terminal, hole and four slots of a rule as its twelve bytes hold them.
 pub fn fields(form: &[u8], number: usize) -> [u16; 7] {
-    let bytes = &form[4 + 12 * number..16 + 12 * number];
+    let bytes = rule_bytes(form, number);
     let slot = |place: usize| word(bytes, 4 + 2 * place);
     let byte = |place: usize| u16::from(bytes[place]);
     [byte(0), byte(1), byte(2), slot(0), slot(1), slot(2), slot(3)]
 }
 
-fn word(bytes: &[u8], at: usize) -> u16 {
-    u16::from(bytes[at]) + 256 * u16::from(bytes[at + 1])
+fn rule_bytes(form: &[u8], number: usize) -> &[u8] {
+    &form[head::end(form) + 12 * number..][..12]
 }
 
-fn parse(alphabet: &Alphabet, bytes: &[u8]) -> Option<Form> {
-    if bytes.len() < 4 {
-        return None;
-    }
-    let (count, start) = (usize::from(word(bytes, 0)), usize::from(word(bytes, 2)));
-    if !(1..=2048).contains(&count) || bytes.len() != 4 + 12 * count {
+fn parse(bytes: &[u8]) -> Option<Form> {
+    let Head { count, start, alphabet } = Head::read(bytes)?;
+    if !(1..=2048).contains(&count) || bytes.len() != head::end(bytes) + 12 * count {
         return None;
     }
     let mut rules = Vec::new();
     for number in 0..count {
-        let padding = bytes[4 + 12 * number + 3];
-        let rule = rule(alphabet, &rules, fields(bytes, number))?;
+        let padding = rule_bytes(bytes, number)[3];
+        let rule = rule(&alphabet, &rules, fields(bytes, number))?;
         rules.push((padding == 0).then_some(rule)?);
     }
-    (rules.get(start)?.rank() == 0).then_some(Form { rules, start })
+    (rules.get(start)?.rank() == 0).then_some(Form { alphabet, rules, start })
 }
 
 /// The rule of these fields after the lower ones, if they keep the form's rules.

@@ -1,10 +1,10 @@
 //! Form making: what it refuses, and what must hold of the form it makes. Which form that is, is
 //! free.
 
-use super::alphabet::Alphabet;
 use super::counts;
 use super::facts::Facts;
 use super::form::Form;
+use super::head;
 use super::label;
 use super::presence::Presence;
 use super::relations;
@@ -22,9 +22,8 @@ pub fn allowed(facts: &Answer<Facts>, form_length: usize) -> Answer<&Facts> {
 
 /// Whether the bytes are a form that may be made of the sheet, and what is wrong if not.
 pub fn check(facts: &Facts, bytes: &[u8]) -> Result<(), String> {
-    let form = Alphabet::read(&facts.sheet.alphabet_body)
-        .and_then(|alphabet| Form::read(&alphabet, bytes))
-        .map_err(|_| "the form is not valid")?;
+    check_head(facts, bytes)?;
+    let form = Form::read(bytes).map_err(|_| "the form is not valid")?;
     check_bounds(facts, &form)?;
     if unfolding::fingerprint(&form) != facts.whole {
         return Err("the form derives another tree".to_string());
@@ -38,6 +37,16 @@ pub fn check(facts: &Facts, bytes: &[u8]) -> Result<(), String> {
         return Err(format!("the form's mask is {mask}, the sheet's {}", facts.mask));
     }
     check_reached(facts, &form)
+}
+
+/// The head must carry the sheet's alphabet, so that no call with that alphabet gets 28.
+fn check_head(facts: &Facts, bytes: &[u8]) -> Result<(), String> {
+    let wanted = &facts.sheet.alphabet_body;
+    match head::ranks(bytes) {
+        Some(ranks) if ranks == wanted => Ok(()),
+        Some(ranks) => Err(format!("the form's head has ranks {ranks:?}, the sheet {wanted:?}")),
+        None => Err("the form's head is cut".to_string()),
+    }
 }
 
 fn check_bounds(facts: &Facts, form: &Form) -> Result<(), String> {

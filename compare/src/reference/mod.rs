@@ -1,5 +1,6 @@
-//! Document 01, with of document 02, in the plainest way: everything is read into trees
-//! and lists, and each meaning is worked out as the documents word it. Speed is no aim here.
+//! Document 01, with of document 02, in the plainest way: everything is read
+//! into trees and lists, and each meaning is worked out as the documents word it. Speed is no aim
+//! here.
 
 pub mod alphabet;
 pub mod automaton;
@@ -11,6 +12,7 @@ pub mod facts;
 pub mod fingerprint;
 pub mod fixed_calls;
 pub mod form;
+pub mod head;
 pub mod label;
 pub mod making;
 pub mod marking;

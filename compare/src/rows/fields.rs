@@ -1,10 +1,11 @@
 //! The fields of a row.
 
+use crate::reference::head::LONGEST_FORM;
 use crate::reference::tally::{COUNTS, Tally, ZERO};
 use std::str::Split;
 
 /// The longest slices of bytes and of numbers that program `examples` lends, whatever is asked.
-const MOST_BYTES: u64 = 24_580;
+const MOST_BYTES: u64 = LONGEST_FORM as u64;
 const MOST_NUMBERS: u64 = 4096;
 
 /// No byte string of a row is longer.

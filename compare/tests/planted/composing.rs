@@ -2,6 +2,7 @@
 //! exclusive or, where *or* is right. Two are faults of rules of kind 3, and two of rules of kind 2.
 
 use crate::engine::{Fault, Planted};
+use compare::reference::head::end;
 
 /// Bit 0 of each row of a relation.
 const ROWS: u64 = 0x0101_0101_0101_0101;
@@ -18,7 +19,7 @@ impl Planted {
             _ => return,
         };
         let right = relations.to_vec();
-        for (number, rule) in form[4..].chunks_exact(12).enumerate() {
+        for (number, rule) in form[end(form)..].chunks_exact(12).enumerate() {
             let entry =
                 |at: usize| right[usize::from(u16::from_le_bytes([rule[at], rule[at + 1]]))];
             if rule[0] == kind {

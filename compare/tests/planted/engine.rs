@@ -1,9 +1,11 @@
 //! An engine with one fault.
 
+use crate::alphabets::{OnForm, fields_one_off};
 use crate::marking::Call;
 use crate::practice::Practice;
 use compare::calls::{Engine, FixedCalls};
 use compare::idiomatic::Idiomatic;
+use compare::reference::head::{LONGEST_FORM, end, rules_behind};
 use std::cell::RefCell;
 
 #[derive(Clone, Copy, Debug, PartialEq)]
@@ -93,6 +95,34 @@ pub enum Fault {
     LoneStillRefused,
     LoneOfRank1Only,
     LeftOutStillRefused,
+    AlphabetNotInNeed,
+    AlphabetNotInMarkingNeed,
+    AlphabetLeftAsHeld,
+    RulesWrittenOneOff,
+    RulesReadOneOff,
+    GivenAlphabetReadAgainst,
+    AlphabetsBeforeForm,
+    AlphabetsBeforeRules,
+    CommonPartCompared,
+    LengthCompared,
+    UsedRanksCompared,
+    RanksComparedInAnyOrder,
+    LastRankNotCompared,
+    EvaluateComparesNot,
+    SizeComparesNot,
+    LabelComparesNot,
+    UnfoldComparesNot,
+    ReadRuleComparesNot,
+    AlphabetsBeforeAutomaton,
+    ShortBeforeAlphabets,
+    LongerBeforeAlphabets,
+    PositionBeforeAlphabets,
+    NumberBeforeAlphabets,
+    CountsWrittenOnOther,
+    HeadCountTold3,
+    HeadRankTold4,
+    HeadOf33Taken,
+    OldFormatGuessed,
 }
 
 pub struct Planted {
@@ -111,7 +141,7 @@ impl Planted {
 
     /// The sheet as this engine takes it; a damaged one is refused as it is.
     pub fn as_read(&self, sheet: &[u8]) -> Vec<u8> {
-        let lawful = || Idiomatic.make_form(sheet, &mut [0; 24_580], &mut 0) == 0;
+        let lawful = || Idiomatic.make_form(sheet, &mut [0; LONGEST_FORM], &mut 0) == 0;
         if self.has(Fault::ParametersByAppearance) && lawful() {
             return by_appearance(sheet);
         }
@@ -134,8 +164,8 @@ impl Planted {
         code
     }
 
-    /// Spoils a form that was made rightly.
-    pub fn spoil_form(&self, first: u8, form: &mut [u8], written: &mut usize) {
+    /// Spoils a form that was made rightly in a slice that held these bytes.
+    pub fn spoil_form(&self, held: &[u8], form: &mut [u8], written: &mut usize) {
         match self.fault {
             Fault::OldForm => {
                 let mut old = self.old_form.borrow_mut();
@@ -146,18 +176,19 @@ impl Planted {
                 }
             }
             Fault::ConstantForm => {
+                let rules = end(form);
                 form[..4].copy_from_slice(&[1, 0, 0, 0]);
-                form[4..8].copy_from_slice(&[0, 0, 0, 0]);
-                form[8..16].fill(0xFF);
-                *written = 16;
+                form[rules..rules + 4].fill(0);
+                form[rules + 4..rules + 12].fill(0xFF);
+                *written = rules + 12;
             }
             Fault::FormWritesPast if *written < form.len() => form[*written] ^= 1,
-            Fault::FormFollowsOldBytes if first == 0 => pad(form, written, 1),
+            Fault::FormFollowsOldBytes if held.first() == Some(&0) => pad(form, written, 1),
             Fault::FormTooLarge => {
                 let spare = (form.len() - *written) / 12;
                 pad(form, written, spare);
             }
-            _ => {}
+            _ => self.spoil_head(held, form, written),
         }
     }
 }
@@ -184,11 +215,12 @@ fn rank_over_4(mut rules: &[u8]) -> bool {
 fn pad(form: &mut [u8], written: &mut usize, times: usize) {
     for _ in 0..times {
         if *written + 12 <= form.len() {
-            form.copy_within(4..16, *written);
+            let rules = end(form);
+            form.copy_within(rules..rules + 12, *written);
             *written += 12;
         }
     }
-    let count = ((*written - 4) / 12) as u16;
+    let count = ((*written - end(form)) / 12) as u16;
     form[..2].copy_from_slice(&count.to_le_bytes());
 }
 
@@ -210,8 +242,8 @@ fn by_appearance(sheet: &[u8]) -> Vec<u8> {
 
 /// The form with the slots of each rule of kind 3 exchanged.
 fn reversed(form: &[u8]) -> Vec<u8> {
-    let mut form = form.to_vec();
-    for rule in form.get_mut(4..).unwrap_or_default().chunks_exact_mut(12) {
+    let (rules, mut form) = (end(form), form.to_vec());
+    for rule in form.get_mut(rules..).unwrap_or_default().chunks_exact_mut(12) {
         if rule[0] == 3 {
             rule[4..8].rotate_left(2);
         }
@@ -236,7 +268,11 @@ impl FixedCalls for Planted {
         {
             return 18;
         }
-        let code = Idiomatic.evaluate(alphabet, automaton, form, relations, mask);
+        let short = relations.len() < rules_behind(form);
+        let on = OnForm { name: "evaluate", given: alphabet, form, short };
+        let code = self.on_form(&on, |alphabet, form| {
+            Idiomatic.evaluate(alphabet, automaton, form, relations, mask)
+        });
         if code == 0 {
             self.join_by_fault(form, relations);
         }
@@ -244,7 +280,7 @@ impl FixedCalls for Planted {
             *mask = 1;
         }
         if code == 0 && self.has(Fault::RelationsPastCleared) {
-            relations[(form.len() - 4) / 12..].fill(0);
+            relations[rules_behind(form)..].fill(0);
         }
         code
     }
@@ -261,15 +297,25 @@ impl FixedCalls for Planted {
             let shorter = tree.len() - 1;
             return Idiomatic.unfold(alphabet, form, counts, &mut tree[..shorter], length);
         }
-        let code = Idiomatic.unfold(alphabet, form, counts, tree, length);
+        let short = counts.len() < 2 * rules_behind(form);
+        let on = OnForm { name: "unfold", given: alphabet, form, short };
+        let code = self
+            .on_form(&on, |alphabet, form| Idiomatic.unfold(alphabet, form, counts, tree, length));
         if code == 20 && self.has(Fault::CountsWrittenOnLonger) {
             Idiomatic.size(alphabet, form, counts, &mut 0);
         }
-        code
+        if code != 28 {
+            return code;
+        }
+        self.before_28(Fault::LongerBeforeAlphabets, form, |own| {
+            Idiomatic.unfold(own, form, &mut counts.to_vec(), &mut tree.to_vec(), &mut 0)
+        })
     }
 
     fn size(&self, alphabet: &[u8], form: &[u8], counts: &mut [u64], size: &mut u64) -> u8 {
-        let code = Idiomatic.size(alphabet, form, counts, size);
+        let short = counts.len() < 2 * rules_behind(form);
+        let on = OnForm { name: "size", given: alphabet, form, short };
+        let code = self.on_form(&on, |alphabet, form| Idiomatic.size(alphabet, form, counts, size));
         if code == 0 && self.has(Fault::OverTooSoon) && *size >= u64::MAX - 1 {
             *size = u64::MAX;
         }
@@ -287,16 +333,37 @@ impl FixedCalls for Planted {
         if self.has(Fault::LastPositionRefused) && position == u64::MAX - 1 {
             return Idiomatic.label(alphabet, form, u64::MAX, counts, terminal);
         }
-        let code = Idiomatic.label(alphabet, form, position, counts, terminal);
+        let short = counts.len() < 2 * rules_behind(form);
+        let on = OnForm { name: "label", given: alphabet, form, short };
+        let code = self.on_form(&on, |alphabet, form| {
+            Idiomatic.label(alphabet, form, position, counts, terminal)
+        });
         if code != 0 && self.has(Fault::TerminalWrittenOnRefusal) {
             *terminal = 0;
         }
-        code
+        if code != 28 {
+            return code;
+        }
+        self.before_28(Fault::PositionBeforeAlphabets, form, |own| {
+            Idiomatic.label(own, form, position, &mut counts.to_vec(), &mut 0)
+        })
     }
 
     fn read_rule(&self, alphabet: &[u8], form: &[u8], number: usize, rule: &mut [u16; 7]) -> u8 {
-        let code = Idiomatic.read_rule(alphabet, form, number, rule);
-        if code == 21 && self.has(Fault::RuleReadPastEnd) { 0 } else { code }
+        let on = OnForm { name: "read_rule", given: alphabet, form, short: false };
+        let code =
+            self.on_form(&on, |alphabet, form| Idiomatic.read_rule(alphabet, form, number, rule));
+        match code {
+            0 if self.has(Fault::RulesReadOneOff) => *rule = fields_one_off(form, number),
+            21 if self.has(Fault::RuleReadPastEnd) => return 0,
+            28 => {
+                return self.before_28(Fault::NumberBeforeAlphabets, form, |own| {
+                    Idiomatic.read_rule(own, form, number, &mut [0; 7])
+                });
+            }
+            _ => {}
+        }
+        code
     }
 
     fn walk(
@@ -346,7 +413,7 @@ impl FixedCalls for Planted {
 
 impl Engine for Planted {
     fn make_form(&self, sheet: &[u8], form: &mut [u8], written: &mut usize) -> u8 {
-        let first = form.first().copied().unwrap_or(0);
+        let held = form.to_vec();
         if self.has(Fault::FormAsksOneMore) && !form.is_empty() {
             let shorter = form.len() - 1;
             return Idiomatic.make_form(sheet, &mut form[..shorter], written);
@@ -355,12 +422,16 @@ impl Engine for Planted {
             return 17;
         }
         let code = Idiomatic.make_form(&self.as_read(sheet), form, written);
-        if code == 17 && self.takes_short_slice(sheet, form.len()) {
+        let short = form.len();
+        if code == 17
+            && (self.takes_room_for_kept(sheet, short)
+                || self.asks_for_no_alphabet(Fault::AlphabetNotInNeed, sheet, short))
+        {
             return 0;
         }
         let code = self.other_order(sheet, code);
         if code == 0 {
-            self.spoil_form(first, form, written);
+            self.spoil_form(&held, form, written);
             self.spoil_wide_form(sheet, form, written);
         }
         self.wide_refusal(sheet).unwrap_or(code)

@@ -1,5 +1,6 @@
 //! The harness finds planted faults: each engine here is right but for one thing.
 
+mod alphabets;
 mod composing;
 mod engine;
 mod marking;
@@ -16,7 +17,8 @@ const FAULTS: [(Fault, &str); 72] = [
     (Fault::FormWritesPast, "make_form"),
     (Fault::FormFollowsOldBytes, "make_form"),
     (Fault::FormTooLarge, "make_form"),
-    (Fault::FormAsksOneMore, "make_form"),
+    // Marking is held to the form that the engine makes, so that it may be the first to tell.
+    (Fault::FormAsksOneMore, "mark"),
     (Fault::ParametersByAppearance, "make_form"),
     (Fault::AutomatonBeforeRules, "make_form"),
     (Fault::RanksBeforeNodes, "make_form"),
@@ -103,6 +105,38 @@ const WIDE_FAULTS: [(Fault, &str, &str); 13] = [
     (Fault::LeftOutStillRefused, "make_form", " 11\n"),
 ];
 
+/// The same of forms that carry their alphabet.
+const ALPHABET_FAULTS: [(Fault, &str, &str); 28] = [
+    (Fault::AlphabetNotInNeed, "make_form", "code: expected 17, found 0"),
+    (Fault::AlphabetNotInMarkingNeed, "mark", "code: expected 17, found 0"),
+    (Fault::AlphabetLeftAsHeld, "make_form", "the form's head "),
+    (Fault::RulesWrittenOneOff, "make_form", "the form is not valid"),
+    (Fault::RulesReadOneOff, "read_rule", "rule: expected"),
+    (Fault::GivenAlphabetReadAgainst, "evaluate", "code: expected"),
+    (Fault::AlphabetsBeforeForm, "evaluate", "code: expected 18, found 28"),
+    (Fault::AlphabetsBeforeRules, "evaluate", "code: expected 18, found 28"),
+    (Fault::CommonPartCompared, "evaluate", "code: expected 28, found"),
+    (Fault::LengthCompared, "size", "code: expected 28, found"),
+    (Fault::UsedRanksCompared, "evaluate", "code: expected 28, found"),
+    (Fault::RanksComparedInAnyOrder, "size", "code: expected 28, found"),
+    (Fault::LastRankNotCompared, "size", "code: expected 28, found"),
+    (Fault::EvaluateComparesNot, "evaluate", "code: expected 28, found"),
+    (Fault::SizeComparesNot, "size", "code: expected 28, found"),
+    (Fault::LabelComparesNot, "label", "code: expected 28, found"),
+    (Fault::UnfoldComparesNot, "unfold", "code: expected 28, found"),
+    (Fault::ReadRuleComparesNot, "read_rule", "code: expected 28, found"),
+    (Fault::AlphabetsBeforeAutomaton, "evaluate", ", found 28"),
+    (Fault::ShortBeforeAlphabets, "size", "code: expected 28, found 19"),
+    (Fault::LongerBeforeAlphabets, "unfold", "code: expected 28, found 20"),
+    (Fault::PositionBeforeAlphabets, "label", "code: expected 28, found 21"),
+    (Fault::NumberBeforeAlphabets, "read_rule", "code: expected 28, found 21"),
+    (Fault::CountsWrittenOnOther, "size", "numbers: found"),
+    (Fault::HeadCountTold3, "evaluate", "code: expected 18, found 3"),
+    (Fault::HeadRankTold4, "evaluate", "code: expected 18, found 4"),
+    (Fault::HeadOf33Taken, "evaluate", "code: expected 18, found 28"),
+    (Fault::OldFormatGuessed, "evaluate", "code: expected 18, found"),
+];
+
 #[test]
 fn every_planted_fault_is_found() {
     for (fault, call) in FAULTS {
@@ -114,7 +148,16 @@ fn every_planted_fault_is_found() {
 
 #[test]
 fn every_planted_fault_of_wider_rules_is_found() {
-    for (fault, call, words) in WIDE_FAULTS {
+    found_with_words(&WIDE_FAULTS);
+}
+
+#[test]
+fn every_planted_fault_of_alphabets_is_found() {
+    found_with_words(&ALPHABET_FAULTS);
+}
+
+fn found_with_words(faults: &[(Fault, &str, &str)]) {
+    for &(fault, call, words) in faults {
         let failure = run_generated(&Planted::new(fault), 4000, 5).err();
         let failure = failure.unwrap_or_else(|| panic!("{fault:?} was not found"));
         let told = failure.difference.to_string();

@@ -3,6 +3,7 @@
 use crate::engine::{Fault, Planted, bodies};
 use compare::calls::{Engine, FixedCalls};
 use compare::idiomatic::Idiomatic;
+use compare::reference::head::{LONGEST_FORM, end, word};
 use compare::reference::tally::COUNTS;
 
 /// A marking with all that it is given.
@@ -37,7 +38,7 @@ impl Call<'_> {
 
     /// The refusal that the sheet gets, whatever the slices are; 0 where none.
     fn of_sheet(&self) -> u8 {
-        Idiomatic.make_form(self.sheet, &mut [0; 24_580], &mut 0)
+        Idiomatic.make_form(self.sheet, &mut [0; LONGEST_FORM], &mut 0)
     }
 
     /// The count that the marking would move in an empty tally.
@@ -106,7 +107,7 @@ impl Planted {
 
     /// Marks with the form and the relations that this engine's two calls leave.
     fn marked(&self, call: &mut Call) -> u8 {
-        let (first, kept) = (call.form.first().copied().unwrap_or(0), call.relations.to_vec());
+        let (held, kept) = (call.form.to_vec(), call.relations.to_vec());
         let sheet = self.as_read(call.sheet);
         let mut tally = call.tally.to_vec();
         if self.has(Fault::TallyOf47Taken) && tally.len() == COUNTS - 1 {
@@ -114,10 +115,14 @@ impl Planted {
         }
         let code = call.put(&sheet, &mut tally);
         call.tally.copy_from_slice(&tally[..call.tally.len()]);
+        let fault = Fault::AlphabetNotInMarkingNeed;
+        if code == 17 && self.asks_for_no_alphabet(fault, &sheet, call.form.len()) {
+            return 0;
+        }
         if code == 0 {
             let form = &mut *call.form;
-            let mut written = 4 + 12 * (usize::from(form[0]) + 256 * usize::from(form[1]));
-            self.spoil_form(first, form, &mut written);
+            let mut written = end(form) + 12 * usize::from(word(form, 0));
+            self.spoil_form(&held, form, &mut written);
             self.spoil_wide_form(call.sheet, form, &mut written);
             let [alphabet, _, automaton] = bodies(&sheet);
             Idiomatic.evaluate(alphabet, automaton, &form[..written], call.relations, &mut 0);

@@ -5,6 +5,7 @@ use compare::calls::Engine;
 use compare::generate::dropped::places;
 use compare::generate::plan::{Plan, RulePlan};
 use compare::idiomatic::{self, Idiomatic, form_by, parameters};
+use compare::reference::head::{self, LONGEST_FORM};
 use compare::reference::presence::Presence;
 use compare::reference::rules::Rule;
 use compare::reference::sheet::Sheet;
@@ -22,7 +23,7 @@ impl Planted {
             Fault::RepeatedAfterCleaning => 11,
             _ => return None,
         };
-        if Idiomatic.make_form(sheet, &mut [0; 24_580], &mut 0) != code {
+        if Idiomatic.make_form(sheet, &mut [0; LONGEST_FORM], &mut 0) != code {
             return None;
         }
         match self.fault {
@@ -55,10 +56,12 @@ impl Planted {
         }
     }
 
-    /// Whether this engine takes a slice that is too short.
-    pub fn takes_short_slice(&self, sheet: &[u8], length: usize) -> bool {
-        let kept = || parsed(sheet).node_count() - places(&parsed(sheet)).len();
-        self.has(Fault::CleanedNodesCounted) && length >= 4 + 192 * kept()
+    /// Whether this engine takes a slice that is too short, since it does not count what is dropped.
+    pub fn takes_room_for_kept(&self, sheet: &[u8], length: usize) -> bool {
+        let plan = parsed(sheet);
+        let kept = || plan.node_count() - places(&plan).len();
+        let need = || head::length(plan.alphabet.len()) + 192 * kept();
+        self.has(Fault::CleanedNodesCounted) && length >= need()
     }
 
     /// Makes the form anew where this engine's cleaning takes too many parameters for present: all
@@ -84,7 +87,7 @@ fn is_written(rule: &Rule, wanted: usize) -> bool {
 }
 
 /// The parts of a sheet whose contents join and whose rules end where a rule ends.
-fn parsed(sheet: &[u8]) -> Plan {
+pub fn parsed(sheet: &[u8]) -> Plan {
     let [alphabet, mut body, automaton] = bodies(sheet);
     let mut rules = Vec::new();
     while let [rank, count, behind @ ..] = body {

@@ -19,7 +19,7 @@ fn the_sample_has_every_call() {
     let (input, output) = sample();
     let found = differences(&input, &output);
     assert!(found.is_empty(), "{}", found.join("\n"));
-    assert_eq!(line::count(&input), 59);
+    assert_eq!(line::count(&input), 62);
 }
 
 /// What is found after the first such text behind the row's name was changed in the output.
@@ -47,9 +47,10 @@ fn a_changed_answer_is_found() {
     planted("26", "tally 0 (4294967295 0 0)", "tally");
     planted("nobody", "refused 26, tally 0 (3 1 2)", "refused 26");
     planted("17", "refused 17", "refused 1");
-    planted("made", "written 76", "written 88");
+    planted("made", "written 80", "written 88");
     planted("even", "written 30", "written 31");
     planted("27", "refused 27", "refused 14");
+    planted("28", "refused 28", "refused 18");
 }
 
 #[test]
@@ -61,6 +62,7 @@ fn a_changed_slice_is_found() {
     planted("20 h", "21*00", "20*00");
     planted("25", "; form 4 kept", "; form 00, 3 kept");
     planted("odd", "40 80 00", "00 40 80");
+    planted("28", "; counts 12 kept", "; counts 1, 11 kept");
     planted("24 of practice", "; sheet 29 kept", "; sheet 0c, 28 kept");
 }
 
@@ -68,6 +70,10 @@ fn a_changed_slice_is_found() {
 fn a_form_that_may_not_be_made_is_found() {
     let told = planted("made", "form 06", "form 05");
     assert!(told.contains("but the form is not valid"), "{told}");
+    let told = planted("made", "03 00 02 01", "03 00 02 02");
+    assert!(told.contains("but the form's head has ranks [0, 2, 2]"), "{told}");
+    let told = planted("certified", "00 03 00 02 01 00", "00 00");
+    assert!(told.contains("but the form's head has ranks []"), "{told}");
     // The start is rule 4, without f.
     let told = planted("marked", "form 06 00 05", "form 06 00 04");
     assert!(told.contains("but the form derives another tree"), "{told}");
@@ -83,7 +89,7 @@ fn a_line_too_few_or_too_many_is_found() {
     for missing in 0..lines.len() {
         let left = [&lines[..missing], &lines[missing + 1..]].concat().join("\n");
         let found = differences(&input, &left);
-        assert!(found[0].contains("expected 62 lines\nfound    61"), "{}", found[0]);
+        assert!(found[0].contains("expected 65 lines\nfound    64"), "{}", found[0]);
     }
     assert_eq!(differences(&input, &format!("{output}more\n")).len(), 1);
     assert_eq!(differences(&input, output.trim_end()).len(), 1);

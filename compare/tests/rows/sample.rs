@@ -9,13 +9,14 @@ const TRANSITIONS: &str = "0000FFFFFFFF020100FFFFFF020001FFFFFF01000000FFFF";
 
 /// A form of W's tree, written by hand: a, h, hh, hhhh, hhhh(a), f(hhhh(a), a).
 const FORM: &str = "\
-    0600050000000000FFFFFFFFFFFFFFFF01020100FFFFFFFFFFFFFFFF03FF000001000100FFFFFFFF\
+    060005000300020100000000FFFFFFFFFFFFFFFF01020100FFFFFFFFFFFFFFFF03FF000001000100FFFFFFFF\
     03FF000002000200FFFFFFFF02FF000003000000FFFFFFFF0001000004000000FFFFFFFF";
 
 /// What is left of the slices after it was made, evaluated and counted, but for the kept elements.
 const MADE: &str = "\
-    form 06 00 05 00 00 00 00 00 ff ff ff ff ff ff ff ff 01 02 01 00 ff ff ff ff ff ff ff ff \
-    03 ff 00 00 01 00 01 00 ff ff ff ff 03 ff 00 00 02 00 02 00 ff ff ff ff \
+    form 06 00 05 00 03 00 02 01 00 00 00 00 ff ff ff ff ff ff ff ff \
+    01 02 01 00 ff ff ff ff ff ff ff ff 03 ff 00 00 01 00 01 00 ff ff ff ff \
+    03 ff 00 00 02 00 02 00 ff ff ff ff \
     02 ff 00 00 03 00 00 00 ff ff ff ff 00 01 00 00 04 00 00 00 ff ff ff ff";
 const RELATIONS: &str = "relations 1 102 201 201 1 1";
 const COUNTS: &str = "counts 1 0 1 1 2 2 4 4 5 0 7 0";
@@ -24,7 +25,7 @@ const MASKS: &str = "masks 01 01 02 01 02 01 01";
 
 /// The sheet of one leaf, wrapped without transitions, and the form of it.
 const LEAF: &str = "sheet 0c 00 03 00 0f 00 03 00 12 00 02 00 00 02 01 00 01 00 02 01";
-const LEAF_FORM: &str = "form 01 00 00 00 00 00 00 00 ff ff ff ff ff ff ff ff";
+const LEAF_FORM: &str = "form 01 00 00 00 03 00 02 01 00 00 00 00 ff ff ff ff ff ff ff ff";
 
 /// Practice sheets of one drawn rule, without transitions: after an even draw, and after an odd one.
 const EVEN: &str = "\
@@ -45,21 +46,21 @@ const SHEET_CALLS: [(&str, &str); 10] = [
     (": line $contents+$alphabet+$rules+0202+$transitions", ": declined 1 7"),
     ("empty: line -", "empty: refused 1"),
     ("65 rules: line 0C0003000F00C300D2000200+$alphabet+65*000100+0201", "65 rules: refused 6"),
-    ("made: make $w 2120", "made: written 76; $made, 2044 kept"),
-    ("17: make $w 2115", "17: refused 17; form 2115 kept"),
+    ("made: make $w 2124", "made: written 80; $made, 2044 kept"),
+    ("17: make $w 2119", "17: refused 17; form 2119 kept"),
     (
-        "certified: certify $w 2116 7 13 8 9",
-        "certified: written 76, mask 1, written 7, mask 1; $counts, 1 kept; $tree, 1 kept; \
+        "certified: certify $w 2120 7 13 8 9",
+        "certified: written 80, mask 1, written 7, mask 1; $counts, 1 kept; $tree, 1 kept; \
          $masks, 2 kept; $made, 2040 kept; $relations, 1 kept",
     ),
     (
-        "20 of four: certify $w 2116 6 12 6 9",
-        "20 of four: written 76, mask 1, refused 20, refused 20; counts 12 kept; tree 6 kept; \
+        "20 of four: certify $w 2120 6 12 6 9",
+        "20 of four: written 80, mask 1, refused 20, refused 20; counts 12 kept; tree 6 kept; \
          masks 9 kept; $made, 2040 kept; $relations, 0 kept",
     ),
     (
-        "19 of four: certify $w 2116 5 12 7 6",
-        "19 of four: written 76, refused 19, written 7, refused 19; $counts, 0 kept; $tree, 0 kept; \
+        "19 of four: certify $w 2120 5 12 7 6",
+        "19 of four: written 80, refused 19, written 7, refused 19; $counts, 0 kept; $tree, 0 kept; \
          masks 6 kept; $made, 2040 kept; relations 5 kept",
     ),
     (
@@ -71,11 +72,11 @@ const SHEET_CALLS: [(&str, &str); 10] = [
 
 const MARKINGS: [(&str, &str); 10] = [
     (
-        "marked: mark $w $tally 2116 176 0",
+        "marked: mark $w $tally 2120 176 0",
         "marked: accepted 1, tally 0 (4 1 2); $made, 2040 kept; $relations, 170 kept",
     ),
     (
-        "declined: mark $contents+$alphabet+$rules+0202+$transitions $tally 2116 177 3",
+        "declined: mark $contents+$alphabet+$rules+0202+$transitions $tally 2120 177 3",
         "declined: declined 1, tally 0 (3 1 2) 3 (0 1 0); $made, 2040 kept; $relations, 171 kept",
     ),
     (
@@ -87,8 +88,8 @@ const MARKINGS: [(&str, &str); 10] = [
         "17 from zero: refused 17, tally; form 2 kept; relations 1 kept",
     ),
     (
-        "19: mark $w $tally 2116 175 0",
-        "19: refused 19, tally 0 (3 1 2); form 2116 kept; relations 175 kept",
+        "19: mark $w $tally 2120 175 0",
+        "19: refused 19, tally 0 (3 1 2); form 2120 kept; relations 175 kept",
     ),
     (
         "25: mark - $tally+2*$nobody+0000000000000000FFFFFFFF 4 99999 3",
@@ -104,8 +105,8 @@ const MARKINGS: [(&str, &str); 10] = [
         "26: refused 26, tally 0 (4294967295 0 0); form 4 kept; relations 0 kept",
     ),
     (
-        "26 far beyond: mark $w 07 2116 176 99999999999999999999",
-        "26 far beyond: refused 26, tally 0 (7 0 0); form 2116 kept; relations 176 kept",
+        "26 far beyond: mark $w 07 2120 176 99999999999999999999",
+        "26 far beyond: refused 26, tally 0 (7 0 0); form 2120 kept; relations 176 kept",
     ),
     (
         "all of a tally: mark - 16*$tally+FF 0 0 15",
@@ -113,7 +114,7 @@ const MARKINGS: [(&str, &str); 10] = [
     ),
 ];
 
-const FORM_CALLS: [(&str, &str); 10] = [
+const FORM_CALLS: [(&str, &str); 13] = [
     ("rule: rule $alphabet $form 5", "rule: rule 0 1 0 4 0 65535 65535"),
     ("no rule: rule $alphabet $form 6", "no rule: refused 21"),
     ("size: size $alphabet $form 13", "size: size 7; $counts, 1 kept"),
@@ -124,6 +125,12 @@ const FORM_CALLS: [(&str, &str); 10] = [
     ("into 6: unfold $alphabet $form 12 6", "into 6: refused 20; tree 6 kept; counts 12 kept"),
     ("mask: evaluate $alphabet 0201+$transitions $form 8", "mask: mask 1; $relations, 2 kept"),
     ("18: evaluate $alphabet 0201 010203 8", "18: refused 18; relations 8 kept"),
+    ("28: unfold 000202 $form 12 8", "28: refused 28; tree 8 kept; counts 12 kept"),
+    (
+        "28 of evaluation: evaluate 0002 0201 $form 5",
+        "28 of evaluation: refused 28; relations 5 kept",
+    ),
+    ("28 of rules: rules 00020100 $form", "28 of rules: refused 28"),
 ];
 
 const TREE_CALLS: [(&str, &str); 5] = [

@@ -22,7 +22,7 @@ sizeNumber over = largest
 abbrev pub ruleNumbers : FormRule → List ℕ
 ruleNumbers r = r .kind ∷ r .terminal .0 ∷ r .hole ∷ r .slot0 .0 ∷ r .slot1 .0 ∷ r .slot2 .0 ∷ r .slot3 .0 ∷ []
 
--- reading a rule into a slice: 3, 4, 18, then 19 for a slice of fewer than seven numbers, then 21 (01 Refusals)
+-- reading a rule into a slice: 3, 4, 18, 28, then 19 for a slice of fewer than seven numbers, then 21 (01 Refusals, 02 R-5)
 unfoldable pub ruleCallRefusal : List ℕ → List ℕ → ℕ → ℕ → ℕ
 ruleCallRefusal alphabet form number room = first (
     openingRefusal alphabet form

@@ -6,10 +6,10 @@ use lib.ListN.{length, take}
 use Rattle.terms.specs.Tree.{Tree, preorder}
 use Rattle.terms.specs.Sheet.{alphabetOf, automatonOf, sheetTree}
 use Rattle.terms.specs.Check.{sheetRefusal}
-use Rattle.terms.specs.FormBytes.{ruleCount, formLength}
+use Rattle.terms.specs.FormBytes.{ruleCount}
 use Rattle.terms.specs.Count.{sizeOf}
 use Rattle.terms.specs.Answer.{Answer, refused, answered, answer, answerOfMask, answerOfLength}
-use Rattle.terms.specs.Calls.{rulesAsked, countsPerRule, formMask, mostWalked}
+use Rattle.terms.specs.Calls.{formAsked, countsPerRule, formMask, mostWalked}
 use Rattle.terms.specs.Demand.{FormOfSheet, Demand3}
 use Rattle.terms.proofs.Demand.{making-passes, form-meets}
 use Rattle.making.specs.Making.{Makes}
@@ -18,7 +18,7 @@ use Rattle.certificate.specs.Certify.{Slices, Walked, Ran, Follows, Call
 use Rattle.certificate.specs.declared.certify.Answers.{Answers}
 use Rattle.unfolding.proofs.Unfolded.{unfolds, tree-first}
 
-module _ (sheet : List ℕ) (answers : Answers) (form : List ℕ) (lent : Slices) (form′ : List ℕ) (left : Slices) (passes : sheetRefusal sheet ≡ 0) (room : formLength (rulesAsked sheet) ≤ length form) where
+module _ (sheet : List ℕ) (answers : Answers) (form : List ℕ) (lent : Slices) (form′ : List ℕ) (left : Slices) (passes : sheetRefusal sheet ≡ 0) (room : formAsked sheet ≤ length form) where
   abbrev alphabet : List ℕ
   alphabet = alphabetOf sheet
 

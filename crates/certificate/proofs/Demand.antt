@@ -7,7 +7,7 @@ use Rattle.terms.specs.Check.{sheetRefusal}
 use Rattle.terms.specs.Demand.{Demand3}
 use Rattle.terms.proofs.Demand.{form-meets}
 use Rattle.terms.proofs.Sheet.Grammar.{rules-passed}
-use Rattle.terms.proofs.Sheet.Passed.{sheet-passed, alphabet-passed}
+use Rattle.terms.proofs.Sheet.Passed.{sheet-passed}
 use Rattle.making.specs.Making.{formOf}
 use Rattle.making.proofs.Formed.{form-of}
 use Rattle.making.proofs.Cleaned.{made-holds}
@@ -18,4 +18,4 @@ unfolding rulesOf
 demand-three sheet passes =
     let p = sheet-passed sheet passes in
     let rules = rules-passed (alphabetOf sheet) (body sheet 1) (p .rules) in
-    form-meets sheet passes (formOf sheet) (form-of sheet (made-holds (alphabetOf sheet) (rulesOf sheet) (alphabet-passed (alphabetOf sheet) (p .alphabet)) (rules .proper) (rules .few-nodes)))
+    form-meets sheet passes (formOf sheet) (form-of sheet (made-holds (alphabetOf sheet) (rulesOf sheet) (p .alphabet) (rules .proper) (rules .few-nodes)))

@@ -6,10 +6,10 @@ use lib.ListN.{length, take}
 use Rattle.terms.specs.Tree.{preorder}
 use Rattle.terms.specs.Sheet.{alphabetOf, automatonOf, sheetTree}
 use Rattle.terms.specs.Check.{sheetRefusal}
-use Rattle.terms.specs.FormBytes.{ruleCount, formLength}
+use Rattle.terms.specs.FormBytes.{ruleCount}
 use Rattle.terms.specs.Count.{sizeOf}
 use Rattle.terms.specs.Answer.{Answer, refused, answered, answer, answerOfMask, answerOfLength}
-use Rattle.terms.specs.Calls.{lentAfter, rulesAsked, countsPerRule, evaluationRefusal, relationsOf, formMask, mostWalked, walkRefusal, walkMask, walkMasks}
+use Rattle.terms.specs.Calls.{lentAfter, formAsked, countsPerRule, evaluationRefusal, relationsOf, formMask, mostWalked, walkRefusal, walkMask, walkMasks}
 use Rattle.terms.specs.Demand.{FormOfSheet, MaskOfRuns}
 use Rattle.making.specs.Making.{Makes}
 use Rattle.unfolding.specs.Unfolding.{Unfolded}
@@ -66,7 +66,7 @@ pub record CallsMade (sheet : List ℕ) (answers : Answers) (form : List ℕ) (l
 
 -- What is claimed of them: demand 3.
 
--- the four calls on a sheet that is not refused, with 4 + 192 · G form bytes lent (01 Unfolding)
+-- the four calls on a sheet that is not refused, with 5 + T + 192 · G form bytes lent (01 Unfolding, 02 R-5)
 pub record Certificate (sheet : List ℕ) (answers : Answers) (lent : Slices) (form′ : List ℕ) (left : Slices) : Type 0 where
   pub written : ℕ
   pub mask : ℕ
@@ -83,6 +83,6 @@ pub record Certificate (sheet : List ℕ) (answers : Answers) (lent : Slices) (f
   pub walked : countsPerRule * ruleCount (take written form′) ≤ length (lent .counts) → sizeOf (sheetTree sheet) ≤ length (lent .tree)
       → sizeOf (sheetTree sheet) ≤ mostWalked → sizeOf (sheetTree sheet) ≤ length (lent .masks) → answerOfMask (answers .walked) ≡ answered mask
 
--- demand 3, for every byte string that refusals 1 to 16 let through, with 4 + 192 · G form bytes lent, whatever the slices held before (01 Unfolding)
+-- demand 3, for every byte string that refusals 1 to 16 let through, with 5 + T + 192 · G form bytes lent, whatever the slices held before (01 Unfolding, 02 R-5)
 abbrev pub Certified : List ℕ → Answers → List ℕ → Slices → List ℕ → Slices → Type 0
-Certified sheet answers form lent form′ left = sheetRefusal sheet ≡ 0 → formLength (rulesAsked sheet) ≤ length form → Certificate sheet answers lent form′ left
+Certified sheet answers form lent form′ left = sheetRefusal sheet ≡ 0 → formAsked sheet ≤ length form → Certificate sheet answers lent form′ left

@@ -5,7 +5,7 @@ use form_bytes::rule::hole_of;
 use form_bytes::rule::kind_of;
 use form_bytes::rule::slot_of;
 use form_bytes::rule::terminal_of;
-use forms::check::MOST_RULES;
+use forms::head::MOST_RULES;
 use terms::Rule;
 ghost use mathlib.Core.Path.{_≡_};
 ghost use mathlib.Core.List.{[], _∷_, _++_};

@@ -11,7 +11,6 @@ use Rattle.terms.specs.FormBytes.{ruleCount, formRefusal}
 use Rattle.terms.specs.Calls.{evaluationRefusal}
 use Rattle.terms.proofs.Refusal.{none-before, no-row}
 use Rattle.terms.proofs.Sheet.Automaton.{automaton-passed, automaton-small}
-use Rattle.terms.proofs.Sheet.Passed.{alphabet-passed}
 use Rattle.terms.proofs.Form.Bytes.{FormPassed, form-passed}
 
 pub record EvaluationPassed (alphabet automaton form : List ℕ) (numbers : ℕ) : Type 0 where
@@ -34,6 +33,6 @@ evaluation-passed alphabet automaton form numbers e =
       automatonPasses = b;
       formPasses = c;
       small = automaton-small alphabet automaton (automaton-passed alphabet automaton b);
-      valid = form-passed alphabet form (alphabet-passed alphabet a) c;
+      valid = form-passed alphabet form c;
       room = ltb-false numbers (ruleCount form) (no-row 18 (ltb numbers (ruleCount form)) 0 t .0);
     }

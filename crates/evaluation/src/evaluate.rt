@@ -48,8 +48,8 @@ pub fn evaluate_checked(alphabet: &[u8], automaton: &[u8], form: &[u8], relation
     states_of(relations, start)
 }
 
-// Evaluates a form: refused by 3 and 4 for the alphabet, 14 to 16 for the automaton, 18 for the form, 19 for a slice with fewer numbers than the form has rules.
-// The slice ends with the rules' entries, its later numbers kept. The entries and the mask are what runs say.
+// Evaluates a form: refused by 3 and 4 for the alphabet, 14 to 16 for the automaton, 18 for the form, 28 where the form carries another alphabet, 19 for a slice
+// with fewer numbers than the form has rules. The slice ends with the rules' entries, its later numbers kept. The entries and the mask are what runs say.
 pub fn evaluate(alphabet: &[u8], automaton: &[u8], form: &[u8], relations: &mut [u64]) -> MaskAnswer
     ensures answer { λ r. ⌜ answerOfMask r ≡ answer (evaluationRefusal (now (alphabet .entry)) (now (automaton .entry)) (now (form .entry)) (length (now (relations .entry)))) (formMask (now (alphabet .entry)) (now (automaton .entry)) (now (form .entry))) ⌝ }
     ensures relations { λ _. ⌜ now (relations .exit) ≡ lentAfter (evaluationRefusal (now (alphabet .entry)) (now (automaton .entry)) (now (form .entry)) (length (now (relations .entry)))) (relationsOf (now (alphabet .entry)) (now (automaton .entry)) (now (form .entry))) (now (relations .entry)) ⌝ }

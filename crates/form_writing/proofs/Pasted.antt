@@ -4,8 +4,8 @@ use mathlib.Core.List.{List, _++_}
 use Prim.Native.Nat.{ℕ, _+_, _*_, _-_, _≤_, _<_}
 use native.Mathlib.Omega.{arith}
 use lib.ListN.{length, getD, take, drop, length-append, length-drop, List·getD-append}
-use lib.Seq.{length-take-le, getD-take, getD-drop, getD-append-add}
-use Rattle.terms.specs.FormBytes.{headLength, ruleLength, headBytes}
+use lib.Seq.{length-take-le, getD-take, getD-drop, getD-append-add, drop-drop}
+use Rattle.terms.specs.FormBytes.{ranksOffset, headLength, ruleLength, headFront, headBytes}
 use Rattle.form_bytes.specs.declared.rule.FormRule.{FormRule}
 use Rattle.form_writing.specs.Bytes.{pasted, bytesOf, Kept, RuleWritten, HeadWritten}
 
@@ -37,8 +37,16 @@ rule-written number rule written exit entry fits is e =
     rw (e, is)
     record { bytes = pasted-at (ruleLength * number) (bytesOf rule) entry fits; kept = pasted-keeps (ruleLength * number) (bytesOf rule) entry fits }
 
-pub head-written : (count start : ℕ) (written exit entry : List ℕ) → headLength ≤ length entry → written ≡ headBytes count start → exit ≡ pasted 0 written entry
-    → HeadWritten count start exit entry
-head-written count start written exit entry fits is e =
-    rw (e, is)
-    record { bytes = λ k h. List·getD-append (headBytes count start) (drop 4 entry) 0 k h; kept = pasted-keeps 0 (headBytes count start) entry fits }
+-- what stands before the ranks, and then these, put in at the front one behind the other, are the bytes of a head
+pub head-written : (alphabet : List ℕ) (count start : ℕ) (written between exit entry : List ℕ) → headLength (length alphabet) ≤ length entry
+    → written ≡ headFront count start (length alphabet) → between ≡ pasted 0 written entry → exit ≡ pasted ranksOffset alphabet between → HeadWritten alphabet count start exit entry
+head-written alphabet count start written between exit entry fits is first next =
+    let n = length alphabet in
+    let head = headBytes alphabet count start in
+    let front = pasted 0 (headFront count start n) entry in
+    let long : headLength n ≡ length head = omega arith in
+    let from-front : headLength n ≡ 0 + length head = omega arith in
+    let behind : drop (headLength n) front ≡ drop (0 + length head) entry =
+    sym (drop-drop n ranksOffset front) ∙ drop-drop n ranksOffset entry ∙ ap (λ m. drop m entry) from-front in
+    let e : exit ≡ pasted 0 head entry = rw (next, first, is) (ap (λ (kept : List ℕ). head ++ kept) behind) in
+    rw e record { bytes = λ k h. List·getD-append head _ 0 k (omega arith); kept = rw long (pasted-keeps 0 head entry (omega arith)) }

@@ -1,4 +1,4 @@
--- The bytes that form making writes (document 01, "One-hole form").
+-- The bytes that form making writes (document 01, "One-hole form", and document 02, R-5).
 use mathlib.Core.Path.{_≡_}
 use mathlib.Core.List.{List, [], _∷_, _++_}
 use Prim.Native.Nat.{ℕ, _+_, _*_, _<_, _≤_}
@@ -46,7 +46,7 @@ pub record RuleWritten (number : ℕ) (rule : FormRule) (exit entry : List ℕ) 
   pub bytes : (k : ℕ) → k < ruleLength → ruleByte exit number k ≡ getD (bytesOf rule) k 0
   pub kept : Kept (ruleLength * number) ruleLength exit entry
 
--- the head of a form is written, and nothing else (01 One-hole form)
-pub record HeadWritten (count start : ℕ) (exit entry : List ℕ) : Type 0 where
-  pub bytes : (k : ℕ) → k < headLength → getD exit k 0 ≡ getD (headBytes count start) k 0
-  pub kept : Kept 0 headLength exit entry
+-- the head of a form is written, and nothing else (01 One-hole form, 02 R-5)
+pub record HeadWritten (alphabet : List ℕ) (count start : ℕ) (exit entry : List ℕ) : Type 0 where
+  pub bytes : (k : ℕ) → k < headLength (length alphabet) → getD exit k 0 ≡ getD (headBytes alphabet count start) k 0
+  pub kept : Kept 0 (headLength (length alphabet)) exit entry

@@ -1,13 +1,14 @@
 // Writing a form: the rules of its table one by one, and its head.
 use checks::bytes::copy_at;
-use form_bytes::layout::HEAD;
+use form_bytes::layout::RANKS_OFFSET;
 use form_bytes::layout::RULE;
 use form_bytes::rule::FormRule;
 use terms::Rule;
 ghost use mathlib.Core.Path.{_≡_};
 ghost use Prim.Native.Nat.{_+_, _*_, _≤_};
 ghost use lib.ListN.{length};
-ghost use Rattle.terms.specs.FormBytes.{headLength, ruleLength, headBytes};
+ghost use Rattle.terms.specs.Check.{mostTerminals};
+ghost use Rattle.terms.specs.FormBytes.{headLength, ruleLength, headFront};
 ghost use Rattle.form_writing.specs.Bytes.{bytesOf, RuleWritten, HeadWritten};
 
 // The bytes of a rule.
@@ -30,15 +31,16 @@ fn rule_bytes(rule: FormRule) -> [u8; RULE]
     ]
 }
 
-// The bytes of the head.
-fn head_bytes(count: usize, start: Rule) -> [u8; HEAD]
-    ensures { λ r. ⌜ r ≡ headBytes count (start .0) ⌝ }
+// The bytes of the head before its ranks: the number of rules, the start and the number of terminals.
+fn head_front(count: usize, start: Rule, terminals: u8) -> [u8; RANKS_OFFSET]
+    ensures { λ r. ⌜ r ≡ headFront count (start .0) terminals ⌝ }
 {
     [
         (count % 256) as u8,
         (count / 256 % 256) as u8,
         (start.0 % 256) as u8,
         (start.0 / 256 % 256) as u8,
+        terminals,
     ]
 }
 
@@ -51,11 +53,12 @@ pub fn write_rule(table: &mut [u8], number: Rule, rule: FormRule)
     copy_at(&bytes, table, RULE * (number.0 as usize));
 }
 
-// Writes the head: the number of rules, and the start.
-pub fn write_head(form: &mut [u8], count: usize, start: Rule)
-    requires { ⌜ headLength ≤ length (now form) ⌝ }
-    ensures { λ _. ⌜ HeadWritten count (start .0) (now (form .exit)) (now (form .entry)) ⌝ }
+// Writes the head: the number of rules, the start, and the alphabet.
+pub fn write_head(form: &mut [u8], alphabet: &[u8], count: usize, start: Rule)
+    requires { ⌜ (headLength (length (now alphabet)) ≤ length (now form)) × (length (now alphabet) ≤ mostTerminals) ⌝ }
+    ensures { λ _. ⌜ HeadWritten (now (alphabet .entry)) count (start .0) (now (form .exit)) (now (form .entry)) ⌝ }
 {
-    let bytes = head_bytes(count, start);
-    copy_at(&bytes, form, 0);
+    let front = head_front(count, start, alphabet.len() as u8);
+    copy_at(&front, form, 0);
+    copy_at(alphabet, form, RANKS_OFFSET);
 }

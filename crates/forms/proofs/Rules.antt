@@ -10,7 +10,7 @@ use lib.ListN.{length}
 use Rattle.terms.specs.Test.{tabulate}
 use Rattle.terms.specs.Grammar.{terminalRank}
 use Rattle.terms.specs.Form.{Rule, whole, pierced, filled, composed, ruleAt, Has, Slots, Fits, Valid}
-use Rattle.terms.specs.FormBytes.{headLength, ruleLength, ruleCount, tableOf, tableCount, ruleByte, slotOf, ruleOfKind, tableRule, tableRules, ruleFits, formRefusal}
+use Rattle.terms.specs.FormBytes.{headLength, ruleLength, ruleCount, terminalCount, tableOf, tableCount, ruleByte, slotOf, ruleOfKind, tableRule, tableRules, ruleFits, formRefusal}
 use Rattle.terms.specs.Check.{alphabetRefusal}
 use Rattle.terms.specs.Calls.{openingRefusal}
 use Rattle.terms.proofs.Refusal.{none-before}
@@ -120,9 +120,9 @@ module _ (alphabet table : List ℕ) (v : ValidTable alphabet table) where
 -- a form that is not refused has a head, and a table that is valid
 module _ (alphabet form : List ℕ) (a : alphabetRefusal alphabet ≡ 0) (e : formRefusal alphabet form ≡ 0) where
   pub passed : FormPassed alphabet form
-  passed = form-passed alphabet form (alphabet-passed alphabet a) e
+  passed = form-passed alphabet form e
 
-  pub head-long : headLength ≤ length form
+  pub head-long : headLength (terminalCount form) ≤ length form
   head-long = omega (arith, passed .long)
 
   pub rules-in-table : tableCount (tableOf form) ≡ ruleCount form

@@ -6,9 +6,8 @@ use Prim.Native.Nat.{ℕ, _≤_}
 use native.Mathlib.Omega.{arith}
 use Rattle.terms.specs.Grammar.{Rule, nodeCount, Proper}
 use Rattle.terms.specs.Sheet.{RulesBody, rulesBody, writtenRules}
-use Rattle.terms.specs.Check.{mostNodes}
+use Rattle.terms.specs.Check.{alphabetRefusal, mostNodes}
 use Rattle.terms.proofs.Sheet.Rules.{rules-read}
-use Rattle.terms.proofs.Sheet.Passed.{AlphabetPassed}
 use Rattle.skeletons.specs.Form.{madeForm}
 use Rattle.skeletons.proofs.Bytes.{made-bytes}
 use Rattle.cleaning_terms.specs.Cleaning.{cleaned}
@@ -32,7 +31,7 @@ cleaned-holds alphabet grammar p h = record {
 }
 
 -- what holds of the form that is made of a grammar
-pub made-holds : (alphabet : List ℕ) (grammar : List Rule) → AlphabetPassed alphabet → Proper alphabet grammar → nodeCount grammar ≤ mostNodes
+pub made-holds : (alphabet : List ℕ) (grammar : List Rule) → alphabetRefusal alphabet ≡ 0 → Proper alphabet grammar → nodeCount grammar ≤ mostNodes
     → FormHolds alphabet grammar (madeForm alphabet (cleaned alphabet grammar))
 made-holds alphabet grammar a p small =
     let m = made-bytes alphabet (cleaned alphabet grammar) a (cleaned-proper alphabet grammar p) (omega (arith, cleaned-node-count alphabet grammar)) in

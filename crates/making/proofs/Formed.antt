@@ -9,11 +9,12 @@ use Rattle.terms.specs.Sheet.{alphabetOf, rulesOf, sheetTree}
 use Rattle.terms.specs.Answer.{Answer, refused, answered, answer}
 use Rattle.terms.specs.Calls.{lentAfter, makingRefusal}
 use Rattle.terms.specs.Demand.{FormOfSheet}
+use Rattle.terms.proofs.Form.Bytes.{form-passed}
 use Rattle.making.specs.Making.{formOf, formLeft, FormHolds, FormMade, Makes}
 
 pub form-of : (sheet : List ℕ) {form : List ℕ} → FormHolds (alphabetOf sheet) (rulesOf sheet) form → FormOfSheet sheet form
 unfolding sheetTree
-form-of sheet w = record { valid = w .accepted; tree = w .tree; few = w .linear }
+form-of sheet {form} w = record { carried = form-passed (alphabetOf sheet) form (w .accepted) .carried; valid = w .accepted; tree = w .tree; few = w .linear }
 
 -- the first bytes of a slice that a form was written into are that form
 pub written-first : (form entry : List ℕ) {n : ℕ} {exit : List ℕ} → n ≡ length form → exit ≡ lentAfter 0 form entry → take n exit ≡ form

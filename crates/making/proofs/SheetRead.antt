@@ -6,14 +6,14 @@ use native.Mathlib.Omega.{arith}
 use borrow.Author.Tests.{lt-ltb, le-ltb}
 use lib.ListN.{length, take, drop, length-drop}
 use lib.Seq.{length-take-le}
-use Rattle.terms.specs.FormBytes.{headLength, formLength, tableOf, mostFormRules}
+use Rattle.terms.specs.FormBytes.{headLength, formLength, behindHead, mostFormRules}
 use Rattle.terms.specs.Sheet.{bodyOffset, body, alphabetOf, rulesBody, rulesOf}
-use Rattle.terms.specs.Check.{sheetRefusal}
+use Rattle.terms.specs.Check.{mostTerminals, sheetRefusal}
 use Rattle.terms.specs.Answer.{Answer, refused, answered, answer}
-use Rattle.terms.specs.Calls.{lentAfter, rulesAsked, makingRefusal}
+use Rattle.terms.specs.Calls.{lentAfter, rulesAsked, formAsked, makingRefusal}
 use Rattle.terms.proofs.Sheet.Bodies.{Joined, joined}
 use Rattle.terms.proofs.Sheet.Grammar.{rules-passed}
-use Rattle.terms.proofs.Sheet.Passed.{SheetPassed, sheet-passed}
+use Rattle.terms.proofs.Sheet.Passed.{alphabet-passed, SheetPassed, sheet-passed}
 use Rattle.skeletons.specs.Form.{madeForm}
 use Rattle.skeletons.proofs.Result.{bound-linear}
 use Rattle.cleaning_terms.specs.Cleaning.{cleaned}
@@ -38,6 +38,7 @@ module _ (s : List ℕ) (room : ℕ) where
 pub record SheetRead (s : List ℕ) (l : Layout) : Type 0 where
   pub passed : sheetRefusal s ≡ 0
   pub terminals : l .terminals ≡ length (alphabetOf s)
+  pub few : l .terminals ≤ mostTerminals
   pub rules : l .rules ≡ length (rulesOf s)
   pub asked : l .asked ≡ rulesAsked s
   pub small : l .asked ≤ mostFormRules
@@ -48,8 +49,10 @@ sheet-read s l e = go (sheetRefusal s) refl e
   where
     go : (m : ℕ) → sheetRefusal s ≡ m → answer m (layoutOf s) ≡ answered l → SheetRead s l
     go zero t e =
+        let n : l .terminals ≡ length (alphabetOf s) = cc in
         let k : l .asked ≡ rulesAsked s = cc in
-        record { passed = t; terminals = cc; rules = cc; asked = k; small = omega (arith, asked-small s t); automaton = cc }
+        let few = alphabet-passed (alphabetOf s) (sheet-passed s t .alphabet) .few in
+        record { passed = t; terminals = n; few = omega arith; rules = cc; asked = k; small = omega (arith, asked-small s t); automaton = cc }
     go (suc m) t e = absurd (let z : _≡_ {A = ℕ} 0 1 = cc in omega arith)
 
 module _ {s : List ℕ} {l : Layout} (r : SheetRead s l) where
@@ -78,28 +81,28 @@ module _ {s : List ℕ} {l : Layout} (r : SheetRead s l) where
   rules-part = rw (r .automaton, ← starts) (sym (where-bodies .rules))
 
   -- the refusal of a slice that is too short, and none
-  pub too-short : (room : ℕ) → room < formLength (l .asked) → 17 ≡ makingRefusal s room
+  pub too-short : (room : ℕ) → room < formLength (l .terminals) (l .asked) → 17 ≡ makingRefusal s room
   unfolding makingRefusal
-  too-short room h = rw (r .passed, lt-ltb room (formLength (rulesAsked s)) (rw (r .asked) at h))
+  too-short room h = rw (r .passed, lt-ltb room (formAsked s) (rw (r .terminals, r .asked) at h))
 
-  pub long-enough : (room : ℕ) → formLength (l .asked) ≤ room → 0 ≡ makingRefusal s room
+  pub long-enough : (room : ℕ) → formLength (l .terminals) (l .asked) ≤ room → 0 ≡ makingRefusal s room
   unfolding makingRefusal
-  long-enough room h = rw (r .passed, le-ltb room (formLength (rulesAsked s)) (rw (r .asked) at h))
+  long-enough room h = rw (r .passed, le-ltb room (formAsked s) (rw (r .terminals, r .asked) at h))
 
   -- the parts are a grammar over the alphabet, and the table has room for its form's rules
-  pub grammar : (form : List ℕ) → formLength (l .asked) ≤ length form → {xs ys : List ℕ} → xs ≡ alphabetOf s → ys ≡ body s 1
-      → (headLength ≤ length form) × Grammar (tableOf form) xs ys (l .rules)
+  pub grammar : (form : List ℕ) → formLength (l .terminals) (l .asked) ≤ length form → {xs ys : List ℕ} → xs ≡ alphabetOf s → ys ≡ body s 1
+      → (headLength (length xs) ≤ length form) × Grammar (behindHead (length xs) form) xs ys (l .rules)
   unfolding rulesOf
   grammar form h a b =
       let p = rules-passed (alphabetOf s) (body s 1) (passed .rules) in
       rw (a, b) (
-        omega arith,
+        omega (arith, r .terminals),
         record {
           alphabet = passed .alphabet;
           proper = p .proper;
           count = r .rules;
           few = p .few-nodes;
-          room = omega (arith, r .asked, bound-linear (alphabetOf s) (rulesBody (body s 1) .rules) (p .proper), length-drop headLength form);
+          room = omega (arith, r .terminals, r .asked, bound-linear (alphabetOf s) (rulesBody (body s 1) .rules) (p .proper), length-drop (headLength (length (alphabetOf s))) form);
         },
       )
 

@@ -3,8 +3,9 @@
 use checks::limits::CONTENTS;
 use cleaning::clean::LONGEST_BODY;
 use cleaning::clean::clean;
-use form_bytes::layout::HEAD;
+use form_bytes::layout::RANKS_OFFSET;
 use form_bytes::layout::RULE;
+use form_bytes::layout::form_length;
 use form_writing::write::write_head;
 use right_sides::rules::make_rules;
 use rule_parameters::strict::is_strict;
@@ -15,7 +16,7 @@ use terms::answers::LengthAnswer;
 ghost use mathlib.Core.Path.{_≡_};
 ghost use lib.ListN.{length};
 ghost use Prim.Native.Nat.{_≤_};
-ghost use Rattle.terms.specs.FormBytes.{headLength, tableOf};
+ghost use Rattle.terms.specs.FormBytes.{headLength, behindHead};
 ghost use Rattle.terms.specs.Answer.{answer, answerOfLength};
 ghost use Rattle.terms.specs.Calls.{makingRefusal};
 ghost use Rattle.terms.specs.Sheet.{alphabetOf, rulesBody, rulesOf};
@@ -27,20 +28,21 @@ ghost use Rattle.making.specs.Private.Read.{ReadWithRoom, FormWritten};
 
 // The form of the rules of a body, whose length is the answer; later bytes are kept.
 fn write_form(form: &mut [u8], alphabet: &[u8], body: &[u8], rules: usize) -> usize
-    requires { ⌜ (headLength ≤ length (now form)) × Grammar (tableOf (now form)) (now alphabet) (now body) rules ⌝ }
+    requires { ⌜ (headLength (length (now alphabet)) ≤ length (now form)) × Grammar (behindHead (length (now alphabet)) (now form)) (now alphabet) (now body) rules ⌝ }
     ensures { λ r. ⌜ FormWritten (now (alphabet .entry)) (rulesBody (now (body .entry)) .rules) (madeForm (now (alphabet .entry)) (rulesBody (now (body .entry)) .rules)) r (now (form .exit)) (now (form .entry)) ⌝ }
 {
-    let made = make_rules(&mut form[HEAD..], alphabet, body, rules);
+    let head = RANKS_OFFSET + alphabet.len();
+    let made = make_rules(&mut form[head..], alphabet, body, rules);
     let count = made.count.0 as usize;
     let start = made.start;
-    write_head(form, count, start);
-    HEAD + RULE * count
+    write_head(form, alphabet, count, start);
+    head + RULE * count
 }
 
 // The form of the cleaned rules of a body, whose length is the answer; later bytes are kept. Rules that pass the test of `is_strict` are cleaned already, and
 // their form is made of the body itself.
 fn write_cleaned(form: &mut [u8], alphabet: &[u8], body: &[u8], rules: usize) -> usize
-    requires { ⌜ (headLength ≤ length (now form)) × Grammar (tableOf (now form)) (now alphabet) (now body) rules ⌝ }
+    requires { ⌜ (headLength (length (now alphabet)) ≤ length (now form)) × Grammar (behindHead (length (now alphabet)) (now form)) (now alphabet) (now body) rules ⌝ }
     ensures { λ r. ⌜ FormWritten (now (alphabet .entry)) (rulesBody (now (body .entry)) .rules) (madeForm (now (alphabet .entry)) (cleaned (now (alphabet .entry)) (rulesBody (now (body .entry)) .rules))) r (now (form .exit)) (now (form .entry)) ⌝ }
 {
     if is_strict(body, rules) {
@@ -76,7 +78,7 @@ pub fn make_form(sheet: &[u8], form: &mut [u8]) -> LengthAnswer
     match read_sheet(sheet) {
         Reading::Refused(n) => LengthAnswer::Refused(n),
         Reading::Sheet(layout) => {
-            if form.len() < HEAD + RULE * layout.asked {
+            if form.len() < form_length(layout.terminals, layout.asked) {
                 return LengthAnswer::Refused(17);
             }
             LengthAnswer::Written(make_read(sheet, layout, form))

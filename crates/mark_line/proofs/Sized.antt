@@ -10,14 +10,14 @@ use lib.ListN.{length, take, drop}
 use lib.Seq.{getD-take, length-take-le}
 use Rattle.terms.specs.Bytes.{word}
 use Rattle.terms.specs.Sheet.{bodyOffset, alphabetOf, sheetTree}
-use Rattle.terms.specs.FormBytes.{headLength, formLength, ruleCount, mostFormRules, formTree}
+use Rattle.terms.specs.FormBytes.{ranksOffset, headLength, formLength, ruleCount, terminalCount, mostFormRules, formTree}
 use Rattle.terms.specs.Count.{sizeOf, largest, capped, Size, exact, over, sizeAnswer}
 use Rattle.terms.specs.Calls.{countsPerRule, sizeRefusal, unfoldingRefusal}
 use Rattle.terms.proofs.Demand.{form-meets}
 use Rattle.terms.proofs.Refusal.{none-before}
 use Rattle.terms.proofs.Form.Bytes.{form-passed}
 use Rattle.terms.proofs.Sheet.Bodies.{joined}
-use Rattle.terms.proofs.Sheet.Passed.{sheet-passed, alphabet-passed}
+use Rattle.terms.proofs.Sheet.Passed.{sheet-passed}
 use Rattle.terms.specs.Answer.{Answer, refused, answered, answer}
 use Rattle.mark_line.specs.Private.MarkedForm.{MarkedForm}
 
@@ -31,13 +31,18 @@ pub record Parts (sheet form : List ℕ) : Type 0 where
   pub first : 12 ≤ bodyOffset sheet 1
   pub last : bodyOffset sheet 1 ≤ length sheet
   pub alphabet : take (bodyOffset sheet 1 - 12) (drop 12 sheet) ≡ alphabetOf sheet
-  pub head : headLength ≤ length form
-  pub end : formLength (ruleCount form) ≤ length form
-  pub call : sizeSaid (alphabetOf sheet) (take (formLength (ruleCount form)) form) (countsPerRule * mostFormRules) ≡ answered (sizeAnswer (sizeOf (sheetTree sheet)))
+  pub head : headLength (terminalCount form) ≤ length form
+  pub end : formLength (terminalCount form) (ruleCount form) ≤ length form
+  pub call : sizeSaid (alphabetOf sheet) (take (formLength (terminalCount form) (ruleCount form)) form) (countsPerRule * mostFormRules) ≡ answered (sizeAnswer (sizeOf (sheetTree sheet)))
 
-count-taken : (n : ℕ) (form : List ℕ) → 2 ≤ n → ruleCount (take n form) ≡ ruleCount form
-unfolding word
-count-taken n form h = ap₂ (λ (a b : ℕ). a + 256 * b) (getD-take n form 0 0 (omega arith)) (getD-take n form 1 0 (omega arith))
+-- the counts in the head of a form's first bytes
+module _ (n : ℕ) (form : List ℕ) (h : ranksOffset ≤ n) where
+  rules-taken : ruleCount (take n form) ≡ ruleCount form
+  unfolding word
+  rules-taken = ap₂ (λ (a b : ℕ). a + 256 * b) (getD-take n form 0 0 (omega arith)) (getD-take n form 1 0 (omega arith))
+
+  terminals-taken : terminalCount (take n form) ≡ terminalCount form
+  terminals-taken = getD-take n form 4 0 (omega arith)
 
 pub parts : (sheet form : List ℕ) → MarkedForm sheet form → Parts sheet form
 unfolding unfoldingRefusal
@@ -45,10 +50,10 @@ parts sheet form m =
     let passed = sheet-passed sheet (m .passes) in
     let bodies = joined sheet (passed .joined) in
     let n = m .written in
-    let here = form-passed (alphabetOf sheet) (take n form) (alphabet-passed (alphabetOf sheet) (passed .alphabet)) (m .formed .valid) in
+    let here = form-passed (alphabetOf sheet) (take n form) (m .formed .valid) in
     let all : length (take n form) ≡ n = length-take-le n form (m .within) in
-    let count = count-taken n form (omega (arith, here .long)) in
-    let end : formLength (ruleCount form) ≡ n = omega (arith, here .long, count, all) in
+    let head : ranksOffset ≤ n = omega (arith, here .long) in
+    let end : formLength (terminalCount form) (ruleCount form) ≡ n = omega (arith, here .long, rules-taken n form head, terminals-taken n form head, all) in
     let demand = form-meets sheet (m .passes) (take n form) (m .formed) in
     let none = none-before (sizeRefusal (alphabetOf sheet) (take n form) (countsPerRule * mostFormRules)) _ (demand .unfolded (countsPerRule * mostFormRules) (sizeOf (sheetTree sheet)) (omega (arith, here .few)) (omega arith)) .0 in
     record {
@@ -56,7 +61,7 @@ parts sheet form m =
       first = bodies .after-contents;
       last = omega (arith, bodies .after-alphabet, bodies .after-rules);
       alphabet = sym (bodies .alphabet);
-      head = omega (arith, here .long, all, m .within);
+      head = omega (arith, end, m .within);
       end = omega (arith, end, m .within);
       call = rw (end, none, m .formed .tree) refl;
     }
@@ -79,7 +84,7 @@ size-number : (s : ℕ) (r : Answer Size) → answered (sizeAnswer s) ≡ r → 
 size-number s r e = subst (λ (x : Answer Size). numberOf x ≡ capped s) e (capped-number s)
 
 -- the same for what the call was given
-pub size-is : (sheet form : List ℕ) → Parts sheet form → (rules end numbers : ℕ) (r : Answer Size) {e : Answer Size} → rules ≡ bodyOffset sheet 1 → end ≡ formLength (ruleCount form) → numbers ≡ countsPerRule * mostFormRules
+pub size-is : (sheet form : List ℕ) → Parts sheet form → (rules end numbers : ℕ) (r : Answer Size) {e : Answer Size} → rules ≡ bodyOffset sheet 1 → end ≡ formLength (terminalCount form) (ruleCount form) → numbers ≡ countsPerRule * mostFormRules
     → r ≡ sizeSaid (take (rules - 12) (drop 12 sheet)) (take end form) numbers → r ≡ e → numberOf e ≡ capped (sizeOf (sheetTree sheet))
 size-is sheet form p rules end numbers r {e} here there many call is =
     let same = rw (here, there, many, p .alphabet, p .call) at call in

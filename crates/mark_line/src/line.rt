@@ -1,6 +1,7 @@
 // What is said of a sheet: a refusal, or verdict, mask and size.
 use checks::bytes::word;
 use checks::limits::CONTENTS;
+use checks::limits::MOST_TERMINALS;
 use counting::counts::COUNTS;
 use form_bytes::layout;
 use marking::answer::Mark;
@@ -14,8 +15,8 @@ ghost use Rattle.terms.specs.Count.{sizeOf, capped};
 ghost use Rattle.mark_line.specs.Private.MarkedForm.{MarkedForm};
 ghost use Rattle.mark_line.specs.Line.{answerOfLine, lineOf};
 
-// The length of a form of the most rules that a form of a sheet may take.
-const LONGEST_FORM: usize = layout::HEAD + layout::RULE * MOST_ASKED;
+// The length of a form of the most terminals of a sheet and the most rules that a form of it may take.
+const LONGEST_FORM: usize = layout::RANKS_OFFSET + MOST_TERMINALS + layout::RULE * MOST_ASKED;
 
 // The refusal, or the mask and the size, for which the largest number of 64 bits stands where it is over.
 pub enum Line {
@@ -30,7 +31,7 @@ fn size_of(sheet: &[u8], form: &[u8]) -> u64
     ensures { λ r. ⌜ r ≡ capped (sizeOf (sheetTree (now (sheet .entry)))) ⌝ }
 {
     let rules = word(sheet, 4);
-    let end = layout::form_length(layout::rule_count(form));
+    let end = layout::form_length(layout::terminal_count(form), layout::rule_count(form));
     let mut counts = [0u64; COUNTS * MOST_ASKED];
     match size(&sheet[CONTENTS..rules], &form[..end], &mut counts) {
         Size::Refused(_) => 0,

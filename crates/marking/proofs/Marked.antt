@@ -49,14 +49,14 @@ module _ (s : List ℕ) (room numbers : ℕ) where
   not-made e h = is-first _ e h
 
 module _ {s : List ℕ} {l : Layout} (read : SheetRead s l) (room numbers : ℕ) where
-  pub form-short : room < formLength (l .asked) → 17 ≡ sheetMarkingRefusal s room numbers
+  pub form-short : room < formLength (l .terminals) (l .asked) → 17 ≡ sheetMarkingRefusal s room numbers
   form-short h = not-made s room numbers (too-short read room h) (λ e. omega arith)
 
-  pub numbers-short : formLength (l .asked) ≤ room → numbers < l .asked → 19 ≡ sheetMarkingRefusal s room numbers
+  pub numbers-short : formLength (l .terminals) (l .asked) ≤ room → numbers < l .asked → 19 ≡ sheetMarkingRefusal s room numbers
   unfolding sheetMarkingRefusal
   numbers-short h k = rw (sym (long-enough read room h), lt-ltb numbers (rulesAsked s) (rw (read .asked) at k))
 
-  pub none-short : formLength (l .asked) ≤ room → l .asked ≤ numbers → 0 ≡ sheetMarkingRefusal s room numbers
+  pub none-short : formLength (l .terminals) (l .asked) ≤ room → l .asked ≤ numbers → 0 ≡ sheetMarkingRefusal s room numbers
   unfolding sheetMarkingRefusal
   none-short h k = rw (sym (long-enough read room h), le-ltb numbers (rulesAsked s) (rw (read .asked) at k))
 

@@ -2,8 +2,7 @@
 use crate::answer::Mark;
 use checks::limits::CONTENTS;
 use evaluation::evaluate::evaluate_checked;
-use form_bytes::layout::HEAD;
-use form_bytes::layout::RULE;
+use form_bytes::layout::form_length;
 use making::make_read;
 use sheets::sheet::Layout;
 use sheets::sheet::Reading;
@@ -56,7 +55,7 @@ pub fn mark_sheet(sheet: &[u8], form: &mut [u8], relations: &mut [u64]) -> Mark
     match read_sheet(sheet) {
         Reading::Refused(n) => Mark::Refused(n),
         Reading::Sheet(layout) => {
-            if form.len() < HEAD + RULE * layout.asked {
+            if form.len() < form_length(layout.terminals, layout.asked) {
                 return Mark::Refused(17);
             }
             if relations.len() < layout.asked {

@@ -9,7 +9,7 @@ use lib.ListN.{length}
 use denote.Ref.{RefT, now}
 use borrow.Author.Tests.{leb-false, le-ltb}
 use Rattle.terms.specs.Refusal.{_when_, orElse}
-use Rattle.terms.specs.FormBytes.{formLength, ruleCount}
+use Rattle.terms.specs.FormBytes.{formLength, ruleCount, terminalCount}
 use Rattle.terms.specs.Calls.{openingRefusal, readingRefusal}
 use Rattle.opening.specs.Reading.{ruleReading}
 use Rattle.forms.proofs.Rules.{passed, opening-passed}
@@ -23,11 +23,11 @@ one-row false c h = rw (h refl)
 
 module _ (alphabet form : List ℕ) (i : ℕ) where
   -- where the form opens, a rule of a number below R stands whole in its bytes
-  stands : openingRefusal alphabet form ≡ 0 → leb (ruleCount form) i ≡ false → ltb (length form) (formLength (i + 1)) ≡ false
+  stands : openingRefusal alphabet form ≡ 0 → leb (ruleCount form) i ≡ false → ltb (length form) (formLength (terminalCount form) (i + 1)) ≡ false
   stands e b =
       let (a, f) = opening-passed alphabet form e in
       let low : i < ruleCount form = leb-false (ruleCount form) i b in
-      le-ltb (length form) (formLength (i + 1)) (omega (arith, passed alphabet form a f .long))
+      le-ltb (length form) (formLength (terminalCount form) (i + 1)) (omega (arith, passed alphabet form a f .long))
 
   by-refusal : (refusal : ℕ) → openingRefusal alphabet form ≡ refusal → openedReading form (openedRules form refusal) refusal i ≡ ruleReading alphabet form i
   unfolding ruleReading readingRefusal

@@ -4,7 +4,7 @@ use Prim.Native.Nat.{ℕ, zero, suc, _+_}
 use lib.Dec.{leb, ltb}
 use lib.ListN.{length}
 use Rattle.terms.specs.Refusal.{_when_, first}
-use Rattle.terms.specs.FormBytes.{formLength, ruleCount, tableOf}
+use Rattle.terms.specs.FormBytes.{formLength, ruleCount, terminalCount, tableOf}
 use Rattle.terms.specs.Answer.{Answer, answer}
 use Rattle.form_bytes.specs.declared.rule.FormRule.{FormRule}
 use Rattle.form_bytes.specs.Fields.{fieldsAt}
@@ -16,7 +16,7 @@ openedRules form (suc n) = 0
 
 -- reading rule i of a form with so many rules: what opening refused, else 21 where i is not below the rules or rule i does not stand whole in the bytes (01 One-hole form)
 abbrev pub openedRefusal : List ℕ → ℕ → ℕ → ℕ → ℕ
-openedRefusal form rules refusal i = first (refusal ∷ 21 when (leb rules i) ∷ 21 when (ltb (length form) (formLength (i + 1))) ∷ [])
+openedRefusal form rules refusal i = first (refusal ∷ 21 when (leb rules i) ∷ 21 when (ltb (length form) (formLength (terminalCount form) (i + 1))) ∷ [])
 
 -- the refusal, or that rule's kind, terminal, hole and four slots (01 One-hole form)
 abbrev pub openedReading : List ℕ → ℕ → ℕ → ℕ → Answer FormRule

@@ -1,4 +1,4 @@
--- What reading a rule of a form answers (document 01, "Refusals with a sheet for each": 3, 4, 18 and 21).
+-- What reading a rule of a form answers (document 01, "Refusals with a sheet for each", and document 02, R-5: 3, 4, 18, 28 and 21).
 use mathlib.Core.List.{List}
 use Prim.Native.Nat.{ℕ}
 use Rattle.terms.specs.FormBytes.{tableOf}

@@ -32,7 +32,7 @@ pub struct Opening {
     pub refusal: u8,
 }
 
-// Checks a form for an alphabet and counts its rules.
+// Checks a form that is given with an alphabet, and counts its rules.
 pub fn check_and_count(alphabet: &[u8], form: &[u8]) -> Opening
     ensures { λ r. ⌜ (let refusal = openingRefusal (now (alphabet .entry)) (now (form .entry)) in (r .rules ≡ openedRules (now (form .entry)) refusal) × (r .refusal ≡ refusal)) ⌝ }
 {
@@ -57,13 +57,13 @@ pub fn rule_of(form: &[u8], rules: usize, refusal: u8, number: Rule) -> RuleRead
     if rules <= place {
         return RuleReading::Refused(NO_RULE);
     }
-    if form.len() < layout::form_length(place + 1) {
+    if form.len() < layout::form_length(layout::terminal_count(form), place + 1) {
         return RuleReading::Refused(NO_RULE);
     }
     RuleReading::Read(rule_at(layout::table_of(form), number))
 }
 
-// Opens a form: refused by 3 and 4 for the alphabet, 18 for the form.
+// Opens a form: refused by 3 and 4 for the alphabet, 18 for the form, 28 where the form carries another alphabet.
 pub fn open<'a>(alphabet: &[u8], form: &'a [u8]) -> OpenForm<'a>
     ensures { λ r. ⌜ (let refusal = openingRefusal (now (alphabet .entry)) (now (form .entry)) in (r .form ≡ form .entry) × (r .rules ≡ openedRules (now (form .entry)) refusal) × (r .refusal ≡ refusal)) ⌝ }
 {

@@ -8,9 +8,9 @@ use lib.Seq.{take-append-seam}
 use Rattle.terms.specs.Tree.{preorder}
 use Rattle.terms.specs.Sheet.{alphabetOf, sheetTree}
 use Rattle.terms.specs.Check.{sheetRefusal}
-use Rattle.terms.specs.FormBytes.{ruleCount, formLength, formTree}
+use Rattle.terms.specs.FormBytes.{ruleCount, formTree}
 use Rattle.terms.specs.Answer.{Answer, refused, answered, answerOfLength}
-use Rattle.terms.specs.Calls.{rulesAsked, countsPerRule, unfoldingRefusal}
+use Rattle.terms.specs.Calls.{formAsked, countsPerRule, unfoldingRefusal}
 use Rattle.terms.specs.Demand.{FormOfSheet, Demand3}
 use Rattle.terms.proofs.Demand.{making-passes, form-meets}
 use Rattle.making.specs.Making.{Makes}
@@ -27,7 +27,7 @@ pub record SheetOf (sheet alphabet tree : List ℕ) : Type 0 where
   pub tree-given : preorder (sheetTree sheet) ≡ tree
 
 module _ (alphabet sheet tree : List ℕ) (is : SheetOf sheet alphabet tree) (r : Restoring) (lent left : RestoringSlices)
-    (room : formLength (rulesAsked sheet) ≤ length (lent .form)) where
+    (room : formAsked sheet ≤ length (lent .form)) where
   size : length (preorder (sheetTree sheet)) ≡ length tree
   size = ap length (is .tree-given)
 

@@ -3,9 +3,9 @@ use mathlib.Core.Path.{_≡_}
 use mathlib.Core.List.{List}
 use Prim.Native.Nat.{ℕ, _*_, _≤_}
 use lib.ListN.{length, take}
-use Rattle.terms.specs.FormBytes.{ruleCount, formLength}
+use Rattle.terms.specs.FormBytes.{ruleCount}
 use Rattle.terms.specs.Answer.{Answer, refused, answered, answer, answerOfLength}
-use Rattle.terms.specs.Calls.{lentAfter, rulesAsked, countsPerRule}
+use Rattle.terms.specs.Calls.{lentAfter, formAsked, countsPerRule}
 use Rattle.making.specs.Making.{Makes}
 use Rattle.unfolding.specs.Unfolding.{Unfolded}
 use Rattle.restoring.specs.declared.written.Restoring.{Restoring}
@@ -48,7 +48,7 @@ pub record TreeBack (tree : List ℕ) (r : Restoring) (lent left : RestoringSlic
   pub back : countsPerRule * ruleCount (take bytes (left .form)) ≤ length (lent .counts) → length tree ≤ length (lent .tree)
       → (answerOfLength (r .unfolded) ≡ answered (length tree)) × (take (length tree) (left .tree) ≡ tree)
 
--- the last sentence of demand 2, and of R-2, for every sheet that is not refused where it is written, with 4 + 192 · G form bytes lent, whatever the slices held
+-- the last sentence of demand 2, and of R-2, for every sheet that is not refused where it is written, with 5 + T + 192 · G form bytes lent, whatever the slices held
 -- before (01 demand 2; 02 R-2)
 abbrev pub Restored : ℕ → List ℕ → List ℕ → Restoring → RestoringSlices → RestoringSlices → Type 0
-Restored n sheet tree r lent left = n ≡ 0 → formLength (rulesAsked sheet) ≤ length (lent .form) → TreeBack tree r lent left
+Restored n sheet tree r lent left = n ≡ 0 → formAsked sheet ≤ length (lent .form) → TreeBack tree r lent left

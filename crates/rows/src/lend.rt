@@ -1,8 +1,8 @@
 // What calls are lent: slices that are filled beforehand, so that it shows what a call writes.
 ghost use Prim.Native.Nat.{_≤_};
 
-// The longest slices that are lent.
-pub const MOST_BYTES: usize = 24580;
+// The longest slices that are lent. The bytes are as many as the longest form has: 5 + 32 + 12 · 2,048.
+pub const MOST_BYTES: usize = 24613;
 
 pub const MOST_NUMBERS: usize = 4096;
 

@@ -11,7 +11,7 @@ ghost use Rattle.terms.specs.Answer.{answer};
 ghost use Rattle.terms.specs.Calls.{sizeRefusal, countsOf, lentAfter};
 ghost use Rattle.sizing.specs.Size.{answerOfSize};
 
-// The refusal of a call that lends so many numbers for the counts: 3, 4, 18 or 19, 0 where it passes.
+// The refusal of a call that lends so many numbers for the counts: 3, 4, 18, 28 or 19, 0 where it passes.
 pub fn check_size(alphabet: &[u8], form: &[u8], numbers: usize) -> u8
     ensures { λ r. ⌜ r ≡ sizeRefusal (now (alphabet .entry)) (now (form .entry)) numbers ⌝ }
 {

@@ -6,10 +6,10 @@ use native.Mathlib.Omega.{arith}
 use lib.ListN.{length}
 use Rattle.terms.specs.Grammar.{Rule, nodeCount, derived, Proper}
 use Rattle.terms.specs.Form.{treeIn, formBound}
-use Rattle.terms.specs.FormBytes.{ruleCount, formLength, formTree, formRefusal, formBytes}
+use Rattle.terms.specs.Check.{alphabetRefusal}
+use Rattle.terms.specs.FormBytes.{ruleCount, formTree, formRefusal, formBytes}
 use Rattle.terms.specs.Calls.{rulesFor}
-use Rattle.terms.proofs.Sheet.Passed.{AlphabetPassed}
-use Rattle.terms.proofs.Form.Written.{length-form, counted, written-form}
+use Rattle.terms.proofs.Form.Written.{counted, written-form}
 use Rattle.skeletons.specs.Skeleton.{Skeleton, shut}
 use Rattle.skeletons.specs.Make.{skeletonOf}
 use Rattle.skeletons.specs.Scan.{scanned}
@@ -22,15 +22,14 @@ pub record MadeBytes (alphabet : List ℕ) (grammar : List Rule) : Type 0 where
   pub tree : formTree alphabet (madeForm alphabet grammar) ≡ derived alphabet grammar
   pub few : ruleCount (madeForm alphabet grammar) ≤ formBound grammar
   pub linear : ruleCount (madeForm alphabet grammar) ≤ rulesFor grammar
-  pub long : length (madeForm alphabet grammar) ≡ formLength (ruleCount (madeForm alphabet grammar))
 
 -- the start is the rule that the start rule's skeleton is
 pub made-from : (alphabet : List ℕ) (grammar : List Rule) (start : ℕ) → skeletonOf (scanned alphabet grammar (length grammar)) (length grammar - 1) ≡ shut start
-    → madeForm alphabet grammar ≡ formBytes (scanned alphabet grammar (length grammar) .rules) start
+    → madeForm alphabet grammar ≡ formBytes alphabet (scanned alphabet grammar (length grammar) .rules) start
 unfolding madeForm
-made-from alphabet grammar start e = ap (λ (s : Skeleton). formBytes (scanned alphabet grammar (length grammar) .rules) (numberOf s)) e
+made-from alphabet grammar start e = ap (λ (s : Skeleton). formBytes alphabet (scanned alphabet grammar (length grammar) .rules) (numberOf s)) e
 
-pub made-bytes : (alphabet : List ℕ) (grammar : List Rule) → AlphabetPassed alphabet → Proper alphabet grammar → nodeCount grammar ≤ 128 → MadeBytes alphabet grammar
+pub made-bytes : (alphabet : List ℕ) (grammar : List Rule) → alphabetRefusal alphabet ≡ 0 → Proper alphabet grammar → nodeCount grammar ≤ 128 → MadeBytes alphabet grammar
 unfolding treeIn
 made-bytes alphabet grammar a p small =
     let rules = scanned alphabet grammar (length grammar) .rules in
@@ -38,7 +37,7 @@ made-bytes alphabet grammar a p small =
     let start = f .0 in
     let linear = form-linear alphabet grammar p (f .2) in
     let most : length rules ≤ 2048 = omega arith in
-    let count = counted rules start most in
+    let count = counted alphabet rules start most in
     let w = written-form alphabet rules start most a (f .2 .valid) (f .2 .from) in
     let is = made-from alphabet grammar start (f .1) in
     record {
@@ -46,5 +45,4 @@ made-bytes alphabet grammar a p small =
       tree = rw is (w .tree ∙ ap treeIn (f .2 .derives));
       few = rw (is, count) (f .2 .few);
       linear = rw (is, count) linear;
-      long = rw (is, count) (length-form rules start);
     }

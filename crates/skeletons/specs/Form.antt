@@ -15,8 +15,8 @@ numberOf (shut a) = a
 numberOf (under c s) = 0
 numberOf (branch f ss) = 0
 
--- the bytes of the form that is made of the rules of a grammar
+-- the bytes of the form that is made of the rules of a grammar, over whose alphabet it is
 unfoldable pub madeForm : List ℕ → List Production → List ℕ
 madeForm alphabet rules =
     let x = scanned alphabet rules (length rules) in
-    formBytes (x .rules) (numberOf (skeletonOf x (length rules - 1)))
+    formBytes alphabet (x .rules) (numberOf (skeletonOf x (length rules - 1)))

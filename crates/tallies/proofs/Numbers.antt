@@ -13,9 +13,8 @@ use Rattle.terms.specs.Tree.{wholes}
 use Rattle.terms.specs.Grammar.{Rule, ruleAt, ruleRank, rankIn, allAllowed, isParameter, sumOver, nodeCount}
 use Rattle.terms.specs.Sheet.{contentsLength, body, alphabetOf, rulesBody, automatonOf, stateCount, finals, transitionCount}
 use Rattle.terms.specs.Check.{mostTerminals, mostRules, mostNodes, highestRank, longestSheet, alphabetRefusal, isOne, ruleRefusal, rulesRefusal, transitionFits, wrongLength, wrongStates, automatonRefusal, joins, sheetRefusal}
-use Rattle.terms.specs.FormBytes.{formLength}
 use Rattle.terms.specs.Answer.{refused, answered, answer}
-use Rattle.terms.specs.Calls.{rulesAsked, makingRefusal, sheetMarkingRefusal, MarkAnswer, sheetMark}
+use Rattle.terms.specs.Calls.{rulesAsked, formAsked, makingRefusal, sheetMarkingRefusal, MarkAnswer, sheetMark}
 use Rattle.tallies.specs.Lists.{Call}
 
 -- rows of numbers up to k
@@ -88,8 +87,7 @@ alone call = answer (sheetMarkingRefusal (call .sheet) (call .room) (call .numbe
 pub of-sheet : (call : Call) → OfSheet (alone call)
 unfolding sheetMarkingRefusal makingRefusal
 of-sheet call =
-    let asked = rulesAsked (call .sheet) in
-    go (sheetRefusal (call .sheet)) (ltb (call .room) (formLength asked)) (ltb (call .numbers) asked) (sheet-number (call .sheet))
+    go (sheetRefusal (call .sheet)) (ltb (call .room) (formAsked (call .sheet))) (ltb (call .numbers) (rulesAsked (call .sheet))) (sheet-number (call .sheet))
   where
     go : (n : ℕ) (b d : Bool) → n ≤ 16 → OfSheet (answer (first (first (n ∷ 17 when b ∷ []) ∷ 19 when d ∷ [])) (sheetMark (call .sheet)))
     go (suc n) b d h = (omega arith, inl (omega arith))

@@ -18,7 +18,7 @@ called c sheet room = record { candidate = c; what = record { sheet = sheet; roo
 
 -- W, W with state 1 final, nothing, W for a candidate that is none, and W with a byte fewer for its form than marking asks for (02 R-1)
 unfoldable pub listed : List (Turn Call)
-listed = called 0 W 2116 ∷ called 1 (wWith 33 0x02) 2116 ∷ called 0 [] 2116 ∷ called 16 W 2116 ∷ called 1 W 2115 ∷ []
+listed = called 0 W 2120 ∷ called 1 (wWith 33 0x02) 2120 ∷ called 0 [] 2120 ∷ called 16 W 2120 ∷ called 1 W 2119 ∷ []
 
 -- what they are answered (02 R-1)
 abbrev pub listedAnswers : List MarkAnswer

@@ -11,9 +11,9 @@ use Rattle.terms.specs.Grammar.{terminalRank}
 use Rattle.terms.specs.Automaton.{mask}
 use Rattle.terms.specs.Sheet.{alphabetOf, automatonOf, rulesOf, transitionsOf, sheetTree}
 use Rattle.terms.specs.Check.{isOne, isTree, treeRefusal, sheetRefusal}
-use Rattle.terms.specs.FormBytes.{ruleCount, formLength}
+use Rattle.terms.specs.FormBytes.{ruleCount}
 use Rattle.terms.specs.Count.{sizeOf}
-use Rattle.terms.specs.Calls.{rulesAsked, makingRefusal, openingRefusal, evaluationRefusal, formMask, countsPerRule, sizeRefusal, unfoldingRefusal, mostWalked, walkRefusal, walkMask}
+use Rattle.terms.specs.Calls.{formAsked, makingRefusal, openingRefusal, evaluationRefusal, formMask, countsPerRule, sizeRefusal, unfoldingRefusal, mostWalked, walkRefusal, walkMask}
 use Rattle.terms.specs.Demand.{FormOfSheet, MaskOfRuns, Demand3}
 use Rattle.terms.proofs.Test.{is-true, both}
 use Rattle.terms.proofs.Tree.Whole.{wholes-preorder, tree-of-preorder}
@@ -59,9 +59,9 @@ module _ (sheet : List ℕ) (passes : sheetRefusal sheet ≡ 0) where
   unfolding walkMask sheetTree
   walk-answers = ap (mask (transitionsOf alphabet automaton)) (tree-of-preorder (terminalRank alphabet) tree (derived-ranked alphabet (rulesOf sheet) (sheet-proper sheet passes)))
 
-  pub making-passes : (room : ℕ) → formLength (rulesAsked sheet) ≤ room → makingRefusal sheet room ≡ 0
+  pub making-passes : (room : ℕ) → formAsked sheet ≤ room → makingRefusal sheet room ≡ 0
   unfolding makingRefusal
-  making-passes room h = rw (passes, le-ltb room (formLength (rulesAsked sheet)) h)
+  making-passes room h = rw (passes, le-ltb room (formAsked sheet) h)
 
   module _ (form : List ℕ) (formed : FormOfSheet sheet form) where
     mask-is : formMask alphabet automaton form ≡ mask (transitionsOf alphabet automaton) tree

@@ -13,7 +13,7 @@ use Rattle.terms.specs.Grammar.{Rule as Production}
 use Rattle.terms.specs.Automaton.{mask}
 use Rattle.terms.specs.Relation.{relationAt}
 use Rattle.terms.specs.Form.{Rule, Value, valueAt}
-use Rattle.terms.specs.Sheet.{Verdict, rulesOf, transitionsOf, sheetMask, sheetVerdict, wrapped}
+use Rattle.terms.specs.Sheet.{Verdict, alphabetOf, rulesOf, transitionsOf, sheetMask, sheetVerdict, wrapped}
 use Rattle.terms.specs.Check.{alphabetRefusal, automatonRefusal, treeRefusal, sheetRefusal, mostNodes}
 use Rattle.terms.specs.FormBytes.{ruleCount, formLength, formRules, formTree, formRefusal}
 use Rattle.terms.specs.Count.{ownNodes, nodesBefore, sizeOf, capped}
@@ -35,13 +35,17 @@ rulesForNode = 16
 abbrev pub rulesFor : List Production → ℕ
 rulesFor grammar = rulesForNode * nodeCount grammar
 
--- how many rules a form of the sheet may take; a form of so many has 4 + 192 · G bytes (01 One-hole form)
+-- how many rules a form of the sheet may take (01 Unfolding)
 abbrev pub rulesAsked : List ℕ → ℕ
 rulesAsked s = rulesFor (rulesOf s)
 
+-- how many bytes form making and marking ask for: those of a form of so many rules over the sheet's alphabet, 5 + T + 192 · G (02 R-5)
+abbrev pub formAsked : List ℕ → ℕ
+formAsked s = formLength (length (alphabetOf s)) (rulesAsked s)
+
 -- form making: 1 to 16, 17 (01 Refusals)
 unfoldable pub makingRefusal : List ℕ → ℕ → ℕ
-makingRefusal s room = first (sheetRefusal s ∷ 17 when (ltb room (formLength (rulesAsked s))) ∷ [])
+makingRefusal s room = first (sheetRefusal s ∷ 17 when (ltb room (formAsked s)) ∷ [])
 
 -- marking a sheet without a tally: 1 to 16, 17, 19 (01 Refusals)
 unfoldable pub sheetMarkingRefusal : List ℕ → ℕ → ℕ → ℕ
@@ -86,7 +90,7 @@ tallyRefusal counts c = first (26 when (unknown c) ∷ 25 when (any full (tallyL
 abbrev pub markingRefusal : List ℕ → ℕ → List ℕ → ℕ → ℕ → ℕ
 markingRefusal counts c s room numbers = orElse (tallyRefusal counts c) (sheetMarkingRefusal s room numbers)
 
--- Calls on a form: 3, 4, (14 to 16 for a mask), 18, 19, then 20 or 21.
+-- Calls on a form: 3, 4, (14 to 16 for a mask), 18, 28, 19, then 20 or 21. Where none of them refuses the form, the alphabet given is the one in its head.
 
 -- opening a form (01 Refusals)
 unfoldable pub openingRefusal : List ℕ → List ℕ → ℕ

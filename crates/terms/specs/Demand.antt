@@ -4,13 +4,15 @@ use mathlib.Core.List.{List}
 use Prim.Native.Nat.{ℕ, _*_, _≤_}
 use Rattle.terms.specs.Tree.{preorder}
 use Rattle.terms.specs.Sheet.{alphabetOf, automatonOf, transitionsOf, sheetTree}
-use Rattle.terms.specs.FormBytes.{ruleCount, formLength, formTree, formRefusal}
+use Rattle.terms.specs.FormBytes.{ruleCount, headAlphabet, formTree, formRefusal}
 use Rattle.terms.specs.Runs.{TreeRuns}
 use Rattle.terms.specs.Count.{sizeOf}
-use Rattle.terms.specs.Calls.{rulesAsked, makingRefusal, evaluationRefusal, formMask, countsPerRule, unfoldingRefusal, mostWalked, walkRefusal, walkMask}
+use Rattle.terms.specs.Calls.{rulesAsked, formAsked, makingRefusal, evaluationRefusal, formMask, countsPerRule, unfoldingRefusal, mostWalked, walkRefusal, walkMask}
 
--- the form is valid for the sheet's alphabet, derives exactly the sheet's tree, and has at most 16 rules for each right-side node (01 Unfolding)
+-- the form carries the sheet's alphabet, is valid for it (neither 18 nor 28 is given), derives exactly the sheet's tree, and has at most 16 rules for each
+-- right-side node (01 Unfolding, 02 R-5)
 pub record FormOfSheet (sheet form : List ℕ) : Type 0 where
+  pub carried : headAlphabet form ≡ alphabetOf sheet
   pub valid : formRefusal (alphabetOf sheet) form ≡ 0
   pub tree : formTree (alphabetOf sheet) form ≡ sheetTree sheet
   pub few : ruleCount form ≤ rulesAsked sheet
@@ -21,7 +23,7 @@ MaskOfRuns sheet mask = TreeRuns (transitionsOf (alphabetOf sheet) (automatonOf 
 
 -- the claim about a sheet and its form, on the definitions alone: what the calls refuse and answer, however long the slices that are lent beyond what is asked (01 Unfolding)
 pub record Demand3 (sheet form : List ℕ) : Type 0 where
-  pub made : (room : ℕ) → formLength (rulesAsked sheet) ≤ room → makingRefusal sheet room ≡ 0
+  pub made : (room : ℕ) → formAsked sheet ≤ room → makingRefusal sheet room ≡ 0
   pub formed : FormOfSheet sheet form
   pub evaluated : (numbers : ℕ) → ruleCount form ≤ numbers → evaluationRefusal (alphabetOf sheet) (automatonOf sheet) form numbers ≡ 0
   pub mask : MaskOfRuns sheet (formMask (alphabetOf sheet) (automatonOf sheet) form)

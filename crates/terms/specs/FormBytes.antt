@@ -1,29 +1,34 @@
--- The bytes of a one-hole form (document 01, "One-hole form").
+-- The bytes of a one-hole form (document 01, "One-hole form", and document 02, R-5).
 use mathlib.Core.Bool.{Bool, false, cond, not, _&&_}
 use mathlib.Core.List.{List, [], _∷_, _++_}
 use Prim.Native.Nat.{ℕ, zero, suc, _+_, _*_, _-_, _/_, _%_}
 use lib.Dec.{ltb, eqb}
-use lib.ListN.{length, getD, drop}
+use lib.ListN.{length, getD, take, drop}
 use Rattle.terms.specs.Test.{every, tabulate}
-use Rattle.terms.specs.Refusal.{_when_, outside}
+use Rattle.terms.specs.Refusal.{_when_, first, outside}
 use Rattle.terms.specs.Bytes.{word, wordBytes}
 use Rattle.terms.specs.Tree.{Tree}
 use Rattle.terms.specs.Grammar.{terminalRank}
+use Rattle.terms.specs.Check.{alphabetRefusal}
 use Rattle.terms.specs.Form.{Rule, whole, pierced, filled, composed, treeIn, valueAt}
 
--- The parts of a form: its head, which has the number of its rules and its start, and the table of its rules.
+-- The parts of a form: its head, which has the number of its rules, its start and its alphabet, and the table of its rules.
 
--- how many bytes the head has (01 One-hole form)
-abbrev pub headLength : ℕ
-headLength = 4
+-- where the ranks of the head begin: behind the rule count, the start and the terminal count (02 R-5)
+abbrev pub ranksOffset : ℕ
+ranksOffset = 5
+
+-- how many bytes a head of T terminals has (02 R-5)
+abbrev pub headLength : ℕ → ℕ
+headLength terminals = ranksOffset + terminals
 
 -- how many bytes a rule has (01 One-hole form)
 abbrev pub ruleLength : ℕ
 ruleLength = 12
 
--- the length of a form of R rules (01 One-hole form)
-abbrev pub formLength : ℕ → ℕ
-formLength count = headLength + ruleLength * count
+-- the length of a form of T terminals and R rules: 5 + T + 12 · R (02 R-5)
+abbrev pub formLength : ℕ → ℕ → ℕ
+formLength terminals count = headLength terminals + ruleLength * count
 
 -- the number R of rules (01 One-hole form)
 abbrev pub ruleCount : List ℕ → ℕ
@@ -33,9 +38,21 @@ ruleCount form = word form 0
 abbrev pub startOf : List ℕ → ℕ
 startOf form = word form 2
 
+-- the number T of terminals (02 R-5)
+abbrev pub terminalCount : List ℕ → ℕ
+terminalCount form = getD form 4 0
+
+-- the alphabet in the head: the rank of each terminal (02 R-5)
+abbrev pub headAlphabet : List ℕ → List ℕ
+headAlphabet form = take (terminalCount form) (drop ranksOffset form)
+
+-- what stands behind a head of T terminals (02 R-5)
+abbrev pub behindHead : ℕ → List ℕ → List ℕ
+behindHead terminals form = drop (headLength terminals) form
+
 -- the table of the rules, which stands behind the head (01 One-hole form)
 abbrev pub tableOf : List ℕ → List ℕ
-tableOf form = drop headLength form
+tableOf form = behindHead (terminalCount form) form
 
 -- What the bytes of a table say. Rule i begins at its byte 12 · i.
 
@@ -76,7 +93,7 @@ tableRule alphabet table i =
 unfoldable pub tableRules : List ℕ → List ℕ → List Rule
 tableRules alphabet table = tabulate (tableCount table) (tableRule alphabet table)
 
--- the rules of a form (01 One-hole form)
+-- the rules of a form, read against the alphabet given, which is the one in its head where neither 18 nor 28 refuses the form (01 One-hole form, 02 R-5)
 abbrev pub formRules : List ℕ → List ℕ → List Rule
 formRules alphabet form = tableRules alphabet (tableOf form)
 
@@ -132,16 +149,30 @@ ruleFits alphabet table i =
 abbrev pub mostFormRules : ℕ
 mostFormRules = 2048
 
--- the form is valid for the alphabet (01 One-hole form)
-unfoldable pub validFor : List ℕ → List ℕ → Bool
-validFor alphabet form =
+-- the head is in order: 1 to 2,048 rules, the length that its counts say, and an alphabet that passes 3 and 4 (02 R-5)
+abbrev pub headFits : List ℕ → Bool
+headFits form =
     not (outside 1 mostFormRules (ruleCount form))
-    && (eqb (length form) (formLength (ruleCount form))
-    && (callsLower (tableOf form) (ruleCount form) 0 (startOf form) && every (ruleCount form) (ruleFits alphabet (tableOf form))))
+    && (eqb (length form) (formLength (terminalCount form) (ruleCount form)) && eqb (alphabetRefusal (headAlphabet form)) 0)
 
--- the refusal 18 of a form (01 One-hole form)
+-- the start is a rule of rank 0, and each rule keeps the section's rules for the alphabet (01 One-hole form)
+abbrev pub startAndRulesFit : List ℕ → List ℕ → Bool
+startAndRulesFit alphabet form = callsLower (tableOf form) (ruleCount form) 0 (startOf form) && every (ruleCount form) (ruleFits alphabet (tableOf form))
+
+-- the form is valid: its head is in order, and start and rules keep the section's rules for the alphabet in the head (01 One-hole form, 02 R-5)
+unfoldable pub validForm : List ℕ → Bool
+validForm form = headFits form && startAndRulesFit (headAlphabet form) form
+
+-- two alphabets are the same: as many terminals, and each of the same rank (02 R-5)
+unfoldable pub sameAlphabet : List ℕ → List ℕ → Bool
+sameAlphabet a b = eqb (length a) (length b) && every (length a) (λ f. eqb (terminalRank a f) (terminalRank b f))
+
+-- the refusals of a form, given with an alphabet: 18 reads the form alone, and 28 says that the alphabet is not the head's (02 R-5)
 unfoldable pub formRefusal : List ℕ → List ℕ → ℕ
-formRefusal alphabet form = 18 when (not (validFor alphabet form))
+formRefusal alphabet form = first (
+    18 when (not (validForm form))
+    ∷ 28 when (not (sameAlphabet alphabet (headAlphabet form)))
+    ∷ [])
 
 -- How a form is written.
 
@@ -174,10 +205,14 @@ unfoldable pub rulesBytes : List Rule → List ℕ
 rulesBytes [] = []
 rulesBytes (r ∷ rules) = ruleBytes r ++ rulesBytes rules
 
--- the bytes of a head: how many rules there are, and the start (01 One-hole form)
-abbrev pub headBytes : ℕ → ℕ → List ℕ
-headBytes count start = wordBytes count ++ wordBytes start
+-- the bytes of a head before its ranks: how many rules there are, the start, and how many terminals there are (02 R-5)
+abbrev pub headFront : ℕ → ℕ → ℕ → List ℕ
+headFront count start terminals = wordBytes count ++ (wordBytes start ++ (terminals ∷ []))
 
--- the bytes of a form: its head and its rules (01 One-hole form)
-unfoldable pub formBytes : List Rule → ℕ → List ℕ
-formBytes rules start = headBytes (length rules) start ++ rulesBytes rules
+-- the bytes of a head: these, and the rank of each terminal (02 R-5)
+abbrev pub headBytes : List ℕ → ℕ → ℕ → List ℕ
+headBytes alphabet count start = headFront count start (length alphabet) ++ alphabet
+
+-- the bytes of a form over an alphabet: its head and its rules (01 One-hole form, 02 R-5)
+unfoldable pub formBytes : List ℕ → List Rule → ℕ → List ℕ
+formBytes alphabet rules start = headBytes alphabet (length rules) start ++ rulesBytes rules

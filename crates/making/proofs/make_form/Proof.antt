@@ -21,19 +21,17 @@ enum-known-layout c = search needs
 known : (c : tie.After-layout) → SheetRead (now (c .before .before .before .before .before .args .sheet)) (c .layout .given .0 .0)
 known c = sheet-read _ _ (sym (c .before .before .read-sheet .ensures) ∙ ap answerOfReading (c .layout .given .1))
 
-mul-if1 : tie.Need-mul-if1
-mul-if1 c = omega (arith, known (c .before .before) .small)
-
-add-if1 : tie.Need-add-if1
-add-if1 c = omega (arith, known (c .before .before) .small)
+form-length-requires : tie.Need-form-length-requires
+form-length-requires c κs = let read = known (c .before) in (omega (arith, read .few), omega (arith, read .small))
 
 returns : tie.Need-returns
-returns c = none-made _ _ _ (too-short (known (c .before .before .before)) _ (c .if1 .taken)) (omega arith)
+returns c = none-made _ _ _ (too-short (known (c .before .before .before)) _ (omega (arith, c .if1 .taken, c .before .form-length .ensures))) (omega arith)
 
 make-read-requires : tie.Need-make-read-requires
 make-read-requires c κs =
-    let layout = c .before .before .before .before in
-    record { read = sym (layout .before .before .read-sheet .ensures) ∙ ap answerOfReading (layout .layout .given .1); fits = c .before .if1 .left }
+    let asked = c .before .before in
+    let layout = asked .before .before in
+    record { read = sym (layout .before .before .read-sheet .ensures) ∙ ap answerOfReading (layout .layout .given .1); fits = omega (arith, c .before .if1 .left, asked .form-length .ensures) }
 
 returns-2 : tie.Need-returns-2
 returns-2 c =
@@ -48,7 +46,7 @@ returns-3 : tie.Need-returns-3
 returns-3 c =
     let call = c .before .before in
     let room = call .before .before in
-    form-made _ _ (long-enough (known (room .before .before .before)) _ (room .if1 .left)) (call .make-read .ensures)
+    form-made _ _ (long-enough (known (room .before .before .before)) _ (omega (arith, room .if1 .left, room .before .form-length .ensures))) (call .make-read .ensures)
 
 pub make-form-spec : {M : Type 1} → statement M
 make-form-spec =
@@ -57,8 +55,7 @@ make-form-spec =
     read-sheet-requires
     enum-known-n
     enum-known-layout
-    mul-if1
-    add-if1
+    form-length-requires
     returns
     make-read-requires
     returns-2

@@ -14,7 +14,7 @@ use Rattle.making.specs.Making.{FormHolds}
 -- the sheet was read as the layout, and the slice has room for the rules that it asks for (01 One-hole form)
 pub record ReadWithRoom (sheet : List ℕ) (layout : Layout) (room : ℕ) : Type 0 where
   pub read : sheetReading sheet ≡ answered layout
-  pub fits : formLength (layout .asked) ≤ room
+  pub fits : formLength (layout .terminals) (layout .asked) ≤ room
 
 -- a form of a grammar is written, so many bytes, and the later ones are kept (01 One-hole form)
 pub record FormWritten (alphabet : List ℕ) (grammar : List Rule) (form : List ℕ) (n : ℕ) (exit entry : List ℕ) : Type 0 where

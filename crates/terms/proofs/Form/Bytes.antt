@@ -1,21 +1,23 @@
 -- The rules that the bytes of a valid form say are a valid form, of which the start derives a tree.
 use mathlib.Core.Path.{_≡_, refl, ap, _∙_}
-use mathlib.Core.Bool.{not, _&&_}
+use mathlib.Core.Bool.{Bool, not, _&&_}
 use mathlib.Core.List.{List, [], _∷_}
 use Prim.Native.Nat.{ℕ, zero, suc, _+_, _*_, _-_, _≤_, _<_}
 use native.Mathlib.Omega.{arith}
 use lib.Dec.{T, leb, ltb, eqb, ltb→lt, eqb→eq, leb→le}
 use lib.ListN.{length, length-drop}
+use lib.Seq.{ext-getD}
 use borrow.Author.Tests.{ltb-false, lt-ltb, ne-eqb, not-false, not-true}
 use Rattle.terms.specs.Test.{all, every, tabulate}
 use Rattle.terms.specs.Refusal.{outside}
 use Rattle.terms.specs.Grammar.{terminalRank}
+use Rattle.terms.specs.Check.{alphabetRefusal}
 use Rattle.terms.specs.Form.{Rule, whole, pierced, ruleAt, holes, Has, Slots, Fits, Valid}
-use Rattle.terms.specs.FormBytes.{headLength, ruleLength, ruleCount, startOf, tableOf, tableCount, formLength, ruleByte, slotOf, kindRank, rankAt, ruleOfKind, tableRule, tableRules, formRules, callsLower, unusedSlot, slotFits, slotsFit, chainFits, kindFits, ruleFits, mostFormRules, validFor, formRefusal}
-use Rattle.terms.proofs.Test.{is-true, of-true, both-0, both-1, parts, or-false, every-at}
+use Rattle.terms.specs.FormBytes.{headLength, ruleLength, ruleCount, startOf, terminalCount, headAlphabet, tableOf, tableCount, formLength, ruleByte, slotOf, kindRank, rankAt, ruleOfKind, tableRule, tableRules, formRules, callsLower, unusedSlot, slotFits, slotsFit, chainFits, kindFits, ruleFits, mostFormRules, headFits, validForm, sameAlphabet, formRefusal}
+use Rattle.terms.proofs.Test.{is-true, of-true, both, both-0, both-1, parts, or-false, equal, every-at, every-of}
 use Rattle.terms.proofs.Tabulate.{length-tabulate, getD-tabulate}
-use Rattle.terms.proofs.Refusal.{not-given}
-use Rattle.terms.proofs.Sheet.Passed.{AlphabetPassed}
+use Rattle.terms.proofs.Refusal.{no-row}
+use Rattle.terms.proofs.Sheet.Passed.{alphabet-passed}
 
 -- no rank is over 4
 pub rank-le : (alphabet : List ℕ) → T (all (λ rank. leb rank 4) alphabet) → (f : ℕ) → terminalRank alphabet f ≤ 4
@@ -124,49 +126,95 @@ module _ (alphabet table : List ℕ) (low : (f : ℕ) → terminalRank alphabet 
     fits = λ i h. let l : i < tableCount table = rw count-rules at h in rw (rule-at i l) (kind-fits i l (ruleByte table i 0) (ruleByte table i 1) (ruleByte table i 2) (kind-fit i l));
   }
 
+-- two alphabets are the same exactly where the test says so
+
+module _ (a b : List ℕ) where
+  abbrev long : Bool
+  long = eqb (length a) (length b)
+
+  abbrev rank : ℕ → Bool
+  rank f = eqb (terminalRank a f) (terminalRank b f)
+
+  pub same-is : T (sameAlphabet a b) → a ≡ b
+  unfolding sameAlphabet
+  same-is h =
+      let (l, each) = parts long (every (length a) rank) h in
+      ext-getD 0 a b (eqb→eq (length a) (length b) l) (λ f m. eqb→eq (terminalRank a f) (terminalRank b f) (every-at (length a) rank each f m))
+
+  pub is-same : a ≡ b → T (sameAlphabet a b)
+  unfolding sameAlphabet
+  is-same e = both long (every (length a) rank) (equal _ _ (ap length e)) (every-of (length a) rank (λ f l. equal _ _ (ap (λ (c : List ℕ). terminalRank c f) e)))
+
 -- a table that has the rules of a form
-module _ (form : List ℕ) (long : length form ≡ formLength (ruleCount form)) where
+module _ (form : List ℕ) (long : length form ≡ formLength (terminalCount form) (ruleCount form)) where
   pub table-long : length (tableOf form) ≡ ruleLength * ruleCount form
-  table-long = omega (arith, length-drop headLength form)
+  table-long = omega (arith, length-drop (headLength (terminalCount form)) form)
 
   pub table-count : tableCount (tableOf form) ≡ ruleCount form
   table-count = omega (arith, table-long)
 
--- what is known of a form that is valid for an alphabet
+-- what is known of a head that is in order
+pub record HeadPassed (form : List ℕ) : Type 0 where
+  pub some : 1 ≤ ruleCount form
+  pub few : ruleCount form ≤ mostFormRules
+  pub long : length form ≡ formLength (terminalCount form) (ruleCount form)
+  pub ranked : alphabetRefusal (headAlphabet form) ≡ 0
+
+pub head-passed : (form : List ℕ) → T (headFits form) → HeadPassed form
+head-passed form h =
+    let r = ruleCount form in
+    let range = not (outside 1 mostFormRules r) in
+    let whole = eqb (length form) (formLength (terminalCount form) r) in
+    let ranked = eqb (alphabetRefusal (headAlphabet form)) 0 in
+    let (p, q) = parts range (whole && ranked) h in
+    let (l, a) = parts whole ranked q in
+    let (low, high) = or-false (ltb r 1) (ltb mostFormRules r) (not-true (outside 1 mostFormRules r) (is-true range p)) in
+    record { some = ltb-false r 1 low; few = ltb-false mostFormRules r high; long = eqb→eq _ _ l; ranked = eqb→eq _ _ a }
+
+-- what is known of a form that is not refused with an alphabet
 pub record FormPassed (alphabet form : List ℕ) : Type 0 where
   pub some : 1 ≤ ruleCount form
   pub few : ruleCount form ≤ mostFormRules
-  pub long : length form ≡ formLength (ruleCount form)
+  pub long : length form ≡ formLength (terminalCount form) (ruleCount form)
+  pub carried : headAlphabet form ≡ alphabet
   pub fits : (i : ℕ) → i < ruleCount form → T (ruleFits alphabet (tableOf form) i)
   pub count : length (formRules alphabet form) ≡ ruleCount form
   pub valid : Valid alphabet (formRules alphabet form)
   pub start : Has (formRules alphabet form) (ruleCount form) 0 (startOf form)
 
-pub form-passed : (alphabet form : List ℕ) → AlphabetPassed alphabet → formRefusal alphabet form ≡ 0 → FormPassed alphabet form
-unfolding formRefusal validFor
-form-passed alphabet form a e =
+-- a valid form, with the alphabet in its head
+by-head : (form : List ℕ) → T (validForm form) → FormPassed (headAlphabet form) form
+unfolding validForm
+by-head form v =
     let r = ruleCount form in
+    let alphabet = headAlphabet form in
     let table = tableOf form in
-    let range = not (outside 1 mostFormRules r) in
-    let whole = eqb (length form) (formLength r) in
     let begin = callsLower table r 0 (startOf form) in
     let each = every r (ruleFits alphabet table) in
-    let v = of-true (validFor alphabet form) (not-false _ (not-given 17 (not (validFor alphabet form)) e)) in
-    let (p, q) = parts range (whole && (begin && each)) v in
-    let (l, s) = parts whole (begin && each) q in
-    let (t, u) = parts begin each s in
-    let (low, high) = or-false (ltb r 1) (ltb mostFormRules r) (not-true (outside 1 mostFormRules r) (is-true range p)) in
-    let ranks = rank-le alphabet (a .ranks) in
-    let long = eqb→eq (length form) (formLength r) l in
-    let all = table-count form long in
+    let (h, rest) = parts (headFits form) (begin && each) v in
+    let (t, u) = parts begin each rest in
+    let head = head-passed form h in
+    let ranks = rank-le alphabet (alphabet-passed alphabet (head .ranked) .ranks) in
+    let all = table-count form (head .long) in
     let fit = every-at r (ruleFits alphabet table) u in
     let each-fits : (i : ℕ) → i < tableCount table → T (ruleFits alphabet table i) = λ i h. fit i (omega arith) in
     record {
-      some = ltb-false r 1 low;
-      few = ltb-false mostFormRules r high;
-      long = long;
+      some = head .some;
+      few = head .few;
+      long = head .long;
+      carried = refl;
       fits = fit;
       count = count-rules alphabet table ranks each-fits ∙ all;
       valid = rules-valid alphabet table ranks each-fits;
       start = calls alphabet table ranks each-fits r 0 (startOf form) (omega arith) t;
     }
+
+pub form-passed : (alphabet form : List ℕ) → formRefusal alphabet form ≡ 0 → FormPassed alphabet form
+unfolding formRefusal
+form-passed alphabet form e =
+    let valid = validForm form in
+    let same = sameAlphabet alphabet (headAlphabet form) in
+    let (e18, r) = no-row 17 (not valid) _ e in
+    let e28 = no-row 27 (not same) _ r .0 in
+    let is : alphabet ≡ headAlphabet form = same-is alphabet (headAlphabet form) (of-true same (not-false _ e28)) in
+    rw is (by-head form (of-true valid (not-false _ e18)))

@@ -1,4 +1,4 @@
--- Bytes that hold the rules of a valid form, with their number and the start in the head, are a valid form that derives what the start derives.
+-- Bytes that hold the rules of a valid form, with their number, the start and the alphabet in the head, are a valid form that derives what the start derives.
 use mathlib.Core.Path.{_≡_, refl, sym, ap, _∙_}
 use mathlib.Core.Bool.{true, not, _&&_}
 use mathlib.Core.List.{List, [], _∷_, _++_}
@@ -12,12 +12,13 @@ use lib.Seq.{getD-append-add, getD-append-seam}
 use Rattle.terms.specs.Test.{every}
 use Rattle.terms.specs.Refusal.{outside}
 use Rattle.terms.specs.Grammar.{terminalRank, Arity}
+use Rattle.terms.specs.Check.{alphabetRefusal}
 use Rattle.terms.specs.Form.{Rule, whole, pierced, filled, composed, treeIn, valueAt, ruleAt, holes, Has, Slots, Fits, Valid}
-use Rattle.terms.specs.FormBytes.{ruleCount, startOf, tableOf, tableCount, formLength, ruleByte, slotOf, rankAt, tableRule, tableRules, formRules, formTree, callsLower, slotFits, slotsFit, unused, chainFits, kindFits, ruleFits, mostFormRules, validFor, formRefusal, fieldsOf}
+use Rattle.terms.specs.FormBytes.{ruleCount, startOf, terminalCount, headAlphabet, tableOf, tableCount, formLength, ruleByte, slotOf, rankAt, tableRule, tableRules, formRules, formTree, callsLower, slotFits, slotsFit, unused, chainFits, kindFits, ruleFits, mostFormRules, validForm, sameAlphabet, formRefusal, fieldsOf}
 use Rattle.terms.proofs.Test.{of-true, is-true, both, every-of}
 use Rattle.terms.proofs.Tabulate.{tabulated}
-use Rattle.terms.proofs.Form.Bytes.{rank-le, table-count}
-use Rattle.terms.proofs.Sheet.Passed.{AlphabetPassed}
+use Rattle.terms.proofs.Form.Bytes.{rank-le, is-same, table-count}
+use Rattle.terms.proofs.Sheet.Passed.{alphabet-passed}
 
 -- slots in front of a hole, the hole, and slots behind it
 module _ (ls rs : List ℕ) where
@@ -176,15 +177,24 @@ module _ (alphabet table : List ℕ) (rules : List Rule) (low : (f : ℕ) → te
         both (eqb (ruleByte table i 3) 0) (kindFits table i (ruleByte table i 0) (length alphabet) f (terminalRank alphabet f) (ruleByte table i 2))
         (of-true _ (eq-eqb (ruleByte table i 3) 0 (says i inside .fourth))) (kind-fits (ruleAt rules i) (says i inside) (valid .fits i inside))
 
--- the bytes are all of the form, with its number of rules and its start in the head
-module _ (alphabet form : List ℕ) (rules : List Rule) (low : (f : ℕ) → terminalRank alphabet f ≤ 4) (valid : Valid alphabet rules)
-    (says : (i : ℕ) → i < length rules → Says (tableOf form) i (ruleAt rules i))
-    (start : ℕ) (counted : ruleCount form ≡ length rules) (begun : startOf form ≡ start) (long : length form ≡ formLength (length rules)) where
+-- what the head of a form has, and how long the form is
+pub record Head (alphabet form : List ℕ) (rules : List Rule) (start : ℕ) : Type 0 where
+  pub counted : ruleCount form ≡ length rules
+  pub begun : startOf form ≡ start
+  pub carried : headAlphabet form ≡ alphabet
+  pub long : length form ≡ formLength (terminalCount form) (length rules)
+
+-- the bytes are all of the form
+module _ (alphabet form : List ℕ) (rules : List Rule) (ranked : alphabetRefusal alphabet ≡ 0) (valid : Valid alphabet rules)
+    (says : (i : ℕ) → i < length rules → Says (tableOf form) i (ruleAt rules i)) (start : ℕ) (head : Head alphabet form rules start) where
   abbrev table : List ℕ
   table = tableOf form
 
   all-rules : tableCount table ≡ length rules
-  all-rules = table-count form (rw counted long) ∙ counted
+  all-rules = table-count form (rw (head .counted) (head .long)) ∙ head .counted
+
+  low : (f : ℕ) → terminalRank alphabet f ≤ 4
+  low = rank-le alphabet (alphabet-passed alphabet ranked .ranks)
 
   rules-read : formRules alphabet form ≡ rules
   unfolding tableRules
@@ -194,15 +204,15 @@ module _ (alphabet form : List ℕ) (rules : List Rule) (low : (f : ℕ) → ter
 
   tree-read : formTree alphabet form ≡ treeIn (valueAt rules start)
   unfolding formTree
-  tree-read = rw (rules-read, begun)
+  tree-read = rw (rules-read, head .begun)
 
-  form-valid : length rules ≤ mostFormRules → Has rules (length rules) 0 start → T (validFor alphabet form)
-  unfolding validFor
+  form-valid : length rules ≤ mostFormRules → Has rules (length rules) 0 start → T (validForm form)
+  unfolding validForm
   form-valid few from =
       let n = length rules in
       let some : 1 ≤ n = omega (arith, from .below) in
       let each = every-of n (ruleFits alphabet table) (rule-fits alphabet table rules low valid says) in
-      rw (counted, begun, le-ltb n 1 some, le-ltb mostFormRules n few, eq-eqb (length form) (formLength n) long)
+      rw (head .counted, head .begun, head .carried, le-ltb n 1 some, le-ltb mostFormRules n few, eq-eqb (length form) (formLength (terminalCount form) n) (head .long), ranked)
       (both (callsLower table n 0 start) (every n (ruleFits alphabet table)) (calls alphabet table rules low valid says n 0 start (omega arith) from) each)
 
 -- what is known of such bytes
@@ -211,14 +221,13 @@ pub record FormRead (alphabet form : List ℕ) (rules : List Rule) (start : ℕ)
   pub read : formRules alphabet form ≡ rules
   pub tree : formTree alphabet form ≡ treeIn (valueAt rules start)
 
-pub form-read : (alphabet form : List ℕ) (rules : List Rule) (start : ℕ) → AlphabetPassed alphabet → Valid alphabet rules
-    → ((i : ℕ) → i < length rules → Says (tableOf form) i (ruleAt rules i)) → ruleCount form ≡ length rules → startOf form ≡ start
-    → length form ≡ formLength (length rules) → length rules ≤ mostFormRules → Has rules (length rules) 0 start → FormRead alphabet form rules start
+pub form-read : (alphabet form : List ℕ) (rules : List Rule) (start : ℕ) → alphabetRefusal alphabet ≡ 0 → Valid alphabet rules
+    → ((i : ℕ) → i < length rules → Says (tableOf form) i (ruleAt rules i)) → Head alphabet form rules start
+    → length rules ≤ mostFormRules → Has rules (length rules) 0 start → FormRead alphabet form rules start
 unfolding formRefusal
-form-read alphabet form rules start a v says counted begun long few from =
-    let low = rank-le alphabet (a .ranks) in
-    record {
-      accepted = rw (is-true (validFor alphabet form) (form-valid alphabet form rules low v says start counted begun long few from));
-      read = rules-read alphabet form rules low v says start counted begun long;
-      tree = tree-read alphabet form rules low v says start counted begun long;
-    }
+form-read alphabet form rules start a v says head few from = record {
+  accepted =
+      rw (is-true (validForm form) (form-valid alphabet form rules a v says start head few from), head .carried, is-true (sameAlphabet alphabet alphabet) (is-same alphabet alphabet refl));
+  read = rules-read alphabet form rules a v says start head;
+  tree = tree-read alphabet form rules a v says start head;
+}

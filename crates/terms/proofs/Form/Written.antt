@@ -5,13 +5,13 @@ use Prim.Native.Nat.{ℕ, zero, suc, _+_, _*_, _-_, _/_, _%_, _≤_, _<_}
 use native.Mathlib.Omega.{arith}
 use native.Mathlib.Decide.{decLt}
 use lib.ListN.{length, getD, length-append, List·getD-append}
-use lib.Seq.{ext-getD, getD-drop, getD-append-add, drop-append-seam}
+use lib.Seq.{ext-getD, getD-drop, getD-append-add, take-append-seam, drop-at}
 use Rattle.terms.specs.Bytes.{word}
+use Rattle.terms.specs.Check.{alphabetRefusal}
 use Rattle.terms.specs.Form.{Rule, whole, pierced, filled, composed, ruleAt, Has, Slots, Fits, Valid}
-use Rattle.terms.specs.FormBytes.{headLength, ruleLength, formLength, ruleCount, startOf, tableOf, ruleByte, unused, mostFormRules, bytesWith, fieldsOf, ruleBytes, rulesBytes, headBytes, formBytes}
-use Rattle.terms.proofs.Sheet.Passed.{AlphabetPassed}
+use Rattle.terms.specs.FormBytes.{headLength, ruleLength, formLength, ruleCount, startOf, headAlphabet, behindHead, tableOf, ruleByte, unused, mostFormRules, bytesWith, fieldsOf, ruleBytes, rulesBytes, headBytes, formBytes}
 use Rattle.terms.proofs.Sheet.Write.{word-back}
-use Rattle.terms.proofs.Form.Fields.{Fields, Says, FormRead, form-read}
+use Rattle.terms.proofs.Form.Fields.{Fields, Says, Head, FormRead, form-read}
 
 -- where the bytes stand
 
@@ -33,43 +33,50 @@ rules-at (r ∷ rules) (suc i) k h l =
     let e : ruleLength * suc i + k ≡ length (ruleBytes r) + (ruleLength * i + k) = omega (arith, length-rule r) in
     rw e (getD-append-add (ruleBytes r) (rulesBytes rules) (ruleLength * i + k) 0 ∙ rules-at rules i k (omega arith) l)
 
--- a byte behind the head is one of the table's
-pub behind-head : (form : List ℕ) (i k : ℕ) → getD form (headLength + (ruleLength * i + k)) 0 ≡ ruleByte (tableOf form) i k
-behind-head form i k = sym (getD-drop headLength form (ruleLength * i + k) 0)
+-- a byte behind a head is one of the table's
+behind-head : (form : List ℕ) (terminals i k : ℕ) → getD form (headLength terminals + (ruleLength * i + k)) 0 ≡ ruleByte (behindHead terminals form) i k
+behind-head form terminals i k = sym (getD-drop (headLength terminals) form (ruleLength * i + k) 0)
 
-module _ (rules : List Rule) (start : ℕ) where
+module _ (alphabet : List ℕ) (rules : List Rule) (start : ℕ) where
   abbrev bytes : List ℕ
-  bytes = formBytes rules start
+  bytes = formBytes alphabet rules start
+
+  abbrev head : List ℕ
+  head = headBytes alphabet (length rules) start
+
+  abbrev table : List ℕ
+  table = behindHead (length alphabet) bytes
 
   -- the table is what stands behind the head
-  table-is : tableOf bytes ≡ rulesBytes rules
+  table-is : table ≡ rulesBytes rules
   unfolding formBytes
-  table-is = drop-append-seam (headBytes (length rules) start) (rulesBytes rules)
+  table-is = drop-at head (rulesBytes rules) (headLength (length alphabet)) (omega arith)
 
-  pub length-form : length bytes ≡ formLength (length rules)
+  length-form : length bytes ≡ formLength (length alphabet) (length rules)
   unfolding formBytes
-  length-form = omega (arith, length-rules rules)
+  length-form = omega (arith, length-append head (rulesBytes rules), length-rules rules)
 
-  head-at : (k : ℕ) → k < headLength → getD bytes k 0 ≡ getD (headBytes (length rules) start) k 0
+  head-at : (k : ℕ) → k < headLength (length alphabet) → getD bytes k 0 ≡ getD head k 0
   unfolding formBytes
-  head-at k h = List·getD-append (headBytes (length rules) start) (rulesBytes rules) 0 k h
+  head-at k h = List·getD-append head (rulesBytes rules) 0 k (omega arith)
 
-  rule-at : (i k : ℕ) → i < length rules → k < ruleLength → ruleByte (tableOf bytes) i k ≡ getD (ruleBytes (ruleAt rules i)) k 0
+  rule-at : (i k : ℕ) → i < length rules → k < ruleLength → ruleByte table i k ≡ getD (ruleBytes (ruleAt rules i)) k 0
   rule-at i k h l = ap (λ table. ruleByte table i k) table-is ∙ rules-at rules i k h l
 
   -- no other bytes have the head and the rules in their places
-  module _ (form : List ℕ) (long : length form ≡ formLength (length rules)) (head : (k : ℕ) → k < headLength → getD form k 0 ≡ getD (headBytes (length rules) start) k 0)
-      (each : (i k : ℕ) → i < length rules → k < ruleLength → ruleByte (tableOf form) i k ≡ getD (ruleBytes (ruleAt rules i)) k 0) where
-    same : (k : ℕ) → k < length form → Dec (k < headLength) → getD form k 0 ≡ getD bytes k 0
-    same k h (yes l) = head k l ∙ sym (head-at k l)
+  module _ (form : List ℕ) (long : length form ≡ formLength (length alphabet) (length rules)) (begins : (k : ℕ) → k < headLength (length alphabet) → getD form k 0 ≡ getD head k 0)
+      (each : (i k : ℕ) → i < length rules → k < ruleLength → ruleByte (behindHead (length alphabet) form) i k ≡ getD (ruleBytes (ruleAt rules i)) k 0) where
+    same : (k : ℕ) → k < length form → Dec (k < headLength (length alphabet)) → getD form k 0 ≡ getD bytes k 0
+    same k h (yes l) = begins k l ∙ sym (head-at k l)
     same k h (no l) =
-        let i = (k - headLength) / ruleLength in
-        let m = (k - headLength) % ruleLength in
-        let e : k ≡ headLength + (ruleLength * i + m) = omega arith in
-        rw e (behind-head form i m ∙ each i m (omega arith) (omega arith) ∙ sym (behind-head bytes i m ∙ rule-at i m (omega arith) (omega arith)))
+        let t = length alphabet in
+        let i = (k - headLength t) / ruleLength in
+        let m = (k - headLength t) % ruleLength in
+        let e : k ≡ headLength t + (ruleLength * i + m) = omega arith in
+        rw e (behind-head form t i m ∙ each i m (omega arith) (omega arith) ∙ sym (behind-head bytes t i m ∙ rule-at i m (omega arith) (omega arith)))
 
     pub only-bytes : form ≡ bytes
-    only-bytes = ext-getD 0 form bytes (long ∙ sym length-form) (λ k h. same k h (decLt k headLength))
+    only-bytes = ext-getD 0 form bytes (long ∙ sym length-form) (λ k h. same k h (decLt k (headLength (length alphabet))))
 
 -- numbers of two bytes
 
@@ -133,16 +140,27 @@ module _ (rules : List Rule) (n : ℕ) (few : n ≤ mostFormRules) where
       fields-read table i (fieldsOf r .kind) (fieldsOf r .terminal) (fieldsOf r .hole) (fieldsOf r .slots) (fields-narrow alphabet r p) each
 
 -- the bytes of a valid form are accepted and read as its rules
-module _ (rules : List Rule) (start : ℕ) (few : length rules ≤ mostFormRules) where
-  pub counted : ruleCount (formBytes rules start) ≡ length rules
-  counted = word-of (formBytes rules start) 0 (length rules) (omega arith) (head-at rules start 0 (omega arith)) (head-at rules start 1 (omega arith))
+module _ (alphabet : List ℕ) (rules : List Rule) (start : ℕ) (few : length rules ≤ mostFormRules) where
+  abbrev form : List ℕ
+  form = formBytes alphabet rules start
 
-  begun : start < 65536 → startOf (formBytes rules start) ≡ start
-  begun h = word-of (formBytes rules start) 2 start h (head-at rules start 2 (omega arith)) (head-at rules start 3 (omega arith))
+  pub counted : ruleCount form ≡ length rules
+  counted = word-of form 0 (length rules) (omega arith) (head-at alphabet rules start 0 (omega arith)) (head-at alphabet rules start 1 (omega arith))
 
-pub written-form : (alphabet : List ℕ) (rules : List Rule) (start : ℕ) → length rules ≤ mostFormRules → AlphabetPassed alphabet → Valid alphabet rules
-    → Has rules (length rules) 0 start → FormRead alphabet (formBytes rules start) rules start
-written-form alphabet rules start few a v from =
-    form-read alphabet (formBytes rules start) rules start a v
-    (λ i h. rule-says rules i (omega arith) alphabet (tableOf (formBytes rules start)) i (ruleAt rules i) (v .fits i h) (λ k l. rule-at rules start i k h l))
-    (counted rules start few) (begun rules start few (omega (arith, from .below))) (length-form rules start) few from
+  begun : start < 65536 → startOf form ≡ start
+  begun h = word-of form 2 start h (head-at alphabet rules start 2 (omega arith)) (head-at alphabet rules start 3 (omega arith))
+
+  carried : headAlphabet form ≡ alphabet
+  unfolding formBytes
+  carried = take-append-seam alphabet (rulesBytes rules)
+
+  head-read : start < 65536 → Head alphabet form rules start
+  unfolding formBytes
+  head-read h = record { counted = counted; begun = begun h; carried = carried; long = length-form alphabet rules start }
+
+  pub written-form : alphabetRefusal alphabet ≡ 0 → Valid alphabet rules → Has rules (length rules) 0 start → FormRead alphabet form rules start
+  unfolding formBytes
+  written-form a v from =
+      form-read alphabet form rules start a v
+      (λ i h. rule-says rules i (omega arith) alphabet (tableOf form) i (ruleAt rules i) (v .fits i h) (λ k l. rule-at alphabet rules start i k h l))
+      (head-read (omega (arith, from .below))) few from

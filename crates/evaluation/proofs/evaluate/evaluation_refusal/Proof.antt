@@ -9,7 +9,6 @@ use borrow.Author.Tests.{lt-ltb, le-ltb}
 use Rattle.terms.specs.Refusal.{_when_}
 use Rattle.terms.specs.Calls.{evaluationRefusal}
 use Rattle.terms.proofs.Refusal.{is-first, is-next, or-none}
-use Rattle.terms.proofs.Sheet.Passed.{alphabet-passed}
 use Rattle.terms.proofs.Form.Bytes.{form-passed}
 use Rattle.evaluation.proofs.evaluate.evaluation_refusal.Statement.{statement}
 use Rattle.evaluation.proofs.evaluate.evaluation_refusal.Tie as tie
@@ -47,13 +46,7 @@ returns-3 c =
     (is-next (automaton .check-automaton .ensures) (c .before .before .if2 .left) (is-first _ (c .before .check-form .ensures) (c .if3 .taken)))
 
 rule-count-requires : tie.Need-rule-count-requires
-rule-count-requires c κs =
-    let alphabet = alphabet-checked (c .before) in
-    omega (
-      arith,
-      form-passed _ _ (alphabet-passed _ (sym (alphabet .check-alphabet .ensures) ∙ c .before .before .before .before .if1 .left))
-          (sym (c .before .check-form .ensures) ∙ c .if3 .left) .long,
-    )
+rule-count-requires c κs = omega (arith, form-passed _ _ (sym (c .before .check-form .ensures) ∙ c .if3 .left) .long)
 
 -- where the three checks found nothing, the length of the slice decides
 last : (c : tie.After-rule-count) (r : ℕ) →

@@ -1,14 +1,15 @@
 -- `mark_line::line::size_of` meets its contract.
-use mathlib.Core.Path.{_≡_, sym, ap, _∙_}
+use mathlib.Core.Path.{_≡_, sym, ap, ap₂, _∙_}
 use Prim.Native.Nat.{ℕ, _*_}
 use native.Mathlib.Omega.{arith}
+use denote.Ref.{now}
 use lib.ListN.{length-replicate}
 use lib.Seq.{length-take-le}
 use borrow.Author.Needs.{needs}
 use Rattle.sizing.specs.Size.{answerOfSize}
 use Rattle.terms.specs.Answer.{Answer}
 use Rattle.terms.specs.Sheet.{sheetTree}
-use Rattle.terms.specs.FormBytes.{formLength, mostFormRules}
+use Rattle.terms.specs.FormBytes.{formLength, ruleCount, terminalCount, mostFormRules}
 use Rattle.terms.specs.Count.{Size, sizeOf, capped}
 use Rattle.terms.specs.Calls.{countsPerRule}
 use Rattle.mark_line.proofs.Sized.{Parts, parts, numberOf, size-is}
@@ -25,37 +26,42 @@ known c = parts _ _ (begin c .pre)
 abbrev measured : tie.After-size → tie.After-form-length
 measured c = c .before .before .before .before
 
+whole : (c : tie.After-form-length) → let form = now (begin (c .before .before .before) .args .form) in c .form-length .result ≡ formLength (terminalCount form) (ruleCount form)
+whole c = c .form-length .ensures ∙ ap₂ formLength (c .before .before .terminal-count .ensures .0) (c .before .rule-count .ensures .0)
+
 -- the size, by what the call answered
-sized : (c : tie.After-size) {e : Answer Size} → answerOfSize (c .size .result) ≡ e → numberOf e ≡ capped (sizeOf (sheetTree (begin (measured c .before .before) .args .sheet .now)))
+sized : (c : tie.After-size) {e : Answer Size} → answerOfSize (c .size .result) ≡ e → numberOf e ≡ capped (sizeOf (sheetTree (begin (measured c .before .before .before) .args .sheet .now)))
 sized c is =
     let form = measured c in
-    let counted = form .before in
-    let read = counted .before in
-    size-is _ _ (known read) _ _ _ _ (read .word .ensures .0) (form .form-length .ensures ∙ ap formLength (counted .rule-count .ensures .0)) (length-replicate {A = ℕ} (countsPerRule * mostFormRules) 0) (c .size .ensures .0) is
+    let read = form .before .before .before in
+    size-is _ _ (known read) _ _ _ _ (read .word .ensures .0) (whole form) (length-replicate {A = ℕ} (countsPerRule * mostFormRules) 0) (c .size .ensures .0) is
 
 word-requires : tie.Need-word-requires
 word-requires c κs = omega (arith, parts _ _ (c .before .before .pre) .long)
 
+terminal-count-requires : tie.Need-terminal-count-requires
+terminal-count-requires c κs = search needs
+
 rule-count-requires : tie.Need-rule-count-requires
-rule-count-requires c κs = known c .head
+rule-count-requires c κs = known (c .before) .head
 
 form-length-requires : tie.Need-form-length-requires
 form-length-requires c κs = search needs
 
 sub-size : tie.Need-sub-size
-sub-size c = omega (arith, known (c .before .before) .first, c .before .before .word .ensures .0)
+sub-size c = omega (arith, known (c .before .before .before) .first, c .before .before .before .word .ensures .0)
 
 part-size-start : tie.Need-part-size-start
-part-size-start c = omega (arith, known (c .before .before) .first, c .before .before .word .ensures .0)
+part-size-start c = omega (arith, known (c .before .before .before) .first, c .before .before .before .word .ensures .0)
 
 part-size-end : tie.Need-part-size-end
-part-size-end c = omega (arith, known (c .before .before) .last, c .before .before .word .ensures .0)
+part-size-end c = omega (arith, known (c .before .before .before) .last, c .before .before .before .word .ensures .0)
 
 slice-aggregate-size : tie.Need-slice-aggregate-size
 slice-aggregate-size c =
     let asked = c .before .before in
-    let counted = asked .before in
-    sym (length-take-le _ (begin (counted .before) .args .form .now) (rw (asked .form-length .ensures, counted .rule-count .ensures .0) (known (counted .before) .end)))
+    let read = asked .before .before .before in
+    sym (length-take-le _ (begin read .args .form .now) (rw (whole asked) (known read .end)))
 
 slice-aggregate-size-2 : tie.Need-slice-aggregate-size-2
 slice-aggregate-size-2 c = search needs
@@ -86,6 +92,7 @@ size-of-spec =
     tie.close
     (tie.spec
     word-requires
+    terminal-count-requires
     rule-count-requires
     form-length-requires
     sub-size
