@@ -11,11 +11,11 @@ use Rattle.terms.specs.Sheet.{bodyOffset, body, alphabetOf, rulesBody, rulesOf}
 use Rattle.terms.specs.Check.{mostTerminals, sheetRefusal}
 use Rattle.terms.specs.Answer.{Answer, refused, answered, answer}
 use Rattle.terms.specs.Calls.{lentAfter, rulesAsked, formAsked, makingRefusal}
+use Rattle.terms.proofs.Form.Bound.{bound-linear}
 use Rattle.terms.proofs.Sheet.Bodies.{Joined, joined}
 use Rattle.terms.proofs.Sheet.Grammar.{rules-passed}
 use Rattle.terms.proofs.Sheet.Passed.{alphabet-passed, SheetPassed, sheet-passed}
 use Rattle.skeletons.specs.Form.{madeForm}
-use Rattle.skeletons.proofs.Result.{bound-linear}
 use Rattle.cleaning_terms.specs.Cleaning.{cleaned}
 use Rattle.sheets.proofs.Asked.{asked-small}
 use Rattle.sheets.specs.Sheet.{layoutOf, sheetReading}

@@ -7,24 +7,25 @@ use borrow.Author.Count.{below-more}
 use lib.ListN.{length, getD, drop, set, length-set}
 use lib.Seq.{drop-cons, getD-set-same, getD-set-other}
 use Rattle.terms.specs.Grammar.{Rule, ruleRank, rankIn, sumRules}
-use Rattle.terms.specs.Form.{formBound}
+use Rattle.terms.specs.Form.{sideBound, formBound}
 use Rattle.terms.specs.declared.Rule.{Rule as Number}
 use Rattle.terms.specs.Sheet.{rulesBody}
 use Rattle.terms.specs.Check.{mostRules}
 use Rattle.terms.specs.FormBytes.{ruleLength}
 use Rattle.terms.proofs.Sheet.Passed.{alphabet-passed}
+use Rattle.terms.proofs.Form.Bound.{bound-linear}
 use Rattle.terms.proofs.Form.Bytes.{rank-le}
 use Rattle.skeletons.specs.Skeleton.{param, shut, nth}
 use Rattle.skeletons.specs.Make.{Form, skeletonOf}
 use Rattle.skeletons.specs.Scan.{scan, scanned}
-use Rattle.skeletons.proofs.Result.{scanned-form, bound-linear}
+use Rattle.skeletons.proofs.Result.{scanned-form}
 use Rattle.grammars.specs.Cursor.{spanAt, ruleIn}
 use Rattle.grammars.specs.declared.cursor.Span.{Span}
 use Rattle.grammars.proofs.Body.{nodes-long, Standing, standing, inside-body, Passed, none-passed, rule-passed}
 use Rattle.form_writing.specs.Bytes.{Holds}
 use Rattle.cells.specs.Cells.{mostCells, spaceLength, Stands, closedAt, Parameters}
 use Rattle.cells.specs.State.{Room, Grown, Stood}
-use Rattle.right_sides.specs.Side.{Known, sideBound, RightSide, SideMade}
+use Rattle.right_sides.specs.Side.{Known, RightSide, SideMade}
 use Rattle.right_sides.specs.Rules.{Grammar, modelOf, RulesMade}
 use Rattle.cells.specs.declared.state.Free.{Free}
 use Rattle.cells.specs.declared.state.Made.{Made}

@@ -8,7 +8,7 @@ use lib.ListN.{length, getD, drop, take, set, length-drop, length-set}
 use lib.Seq.{drop-cons, getD-drop, drop-drop, drop-set-lt, getD-set-same, take-all}
 use Rattle.terms.specs.Tree.{Wholes, exactly, lacking, taking, wholes}
 use Rattle.terms.specs.Grammar.{Name, terminal, nonterminal, parameter, nothing, name, ruleRank, nameRank, rankIn, allowed, sumOver}
-use Rattle.terms.specs.Form.{share}
+use Rattle.terms.specs.Form.{share, sideBound}
 use Rattle.terms.specs.Check.{mostRules, mostNodes}
 use Rattle.terms.proofs.Test.{all-at, is-true}
 use Rattle.terms.proofs.Grammar.Sum.{sum-over-drop}
@@ -21,7 +21,7 @@ use Rattle.skeletons.specs.Skeleton.{size, weight}
 use Rattle.cells.specs.Cells.{Stands, Row}
 use Rattle.cells.specs.State.{Room, Grown, Stood}
 use Rattle.contraction.specs.Substitution.{Bounded, StoodRow}
-use Rattle.right_sides.specs.Side.{NodeReady, NodeMade, sideBound, RightSide, sideMade}
+use Rattle.right_sides.specs.Side.{NodeReady, NodeMade, RightSide, sideMade}
 use Rattle.cells.specs.declared.state.Free.{Free}
 use Rattle.cells.specs.declared.state.Made.{Made}
 use Rattle.nodes.specs.Nodes.{ruledBy, HasRank}

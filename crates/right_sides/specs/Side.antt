@@ -3,9 +3,9 @@ use mathlib.Core.Path.{_≡_}
 use mathlib.Core.List.{List}
 use Prim.Native.Nat.{ℕ, _*_, _-_, _≤_, _<_}
 use lib.ListN.{length, getD}
-use Rattle.terms.specs.Grammar.{Name, terminal, nonterminal, parameter, nothing, ruleAt, terminalRank, ruleRank, rankIn, sumOver, Proper}
+use Rattle.terms.specs.Grammar.{Name, terminal, nonterminal, parameter, nothing, ruleAt, terminalRank, ruleRank, rankIn, Proper}
 use Rattle.terms.specs.Grammar.{Rule as Production}
-use Rattle.terms.specs.Form.{Rule, share}
+use Rattle.terms.specs.Form.{Rule, sideBound}
 use Rattle.terms.specs.Check.{mostRules, mostNodes}
 use Rattle.skeletons.specs.Skeleton.{Skeleton, param, nth}
 use Rattle.skeletons.specs.Make as model
@@ -49,10 +49,6 @@ pub record Known (space : List ℕ) (free : Free) (ranks roots : List ℕ) (rule
   pub light : (r : ℕ) → r < number → weight (skeleton r) ≤ 4 * ruleRank rules r - 3
   pub four : 4 ≤ free .cell
   pub parameters : (j : ℕ) → j < 4 → Stands space j (param j)
-
--- how many rules the nodes of a right side may add (02 R-6)
-abbrev pub sideBound : List Production → List ℕ → ℕ
-sideBound rules nodes = sumOver (share (ruleRank rules)) nodes
 
 -- the nodes are those of a rule of a grammar, of which the lower rules are known, and there is room for what they make
 pub record RightSide (table space : List ℕ) (free : Free) (alphabet ranks roots nodes : List ℕ) : Type 0 where

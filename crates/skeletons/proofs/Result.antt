@@ -1,18 +1,18 @@
 -- The form that is made from the node lists of a proper grammar is a form of that grammar.
 use mathlib.Core.Path.{_≡_, refl, _∙_, ap}
-use mathlib.Core.List.{List, []}
+use mathlib.Core.List.{List}
 use Prim.Native.Nat.{ℕ, _-_, _≤_, _<_}
 use native.Mathlib.Omega.{arith}
-use native.Mathlib.Decide.{decLt}
-use lib.ListN.{length, List·getD-eq-default}
+use lib.ListN.{length}
 use Rattle.terms.specs.Tree.{Tree, preorder}
 use Rattle.terms.specs.Grammar.{Name, terminal, nonterminal, parameter, nothing, Rule, ruleAt, ruleRank, rightSide, isParameter, sumOver, derived, Proper}
 use Rattle.terms.specs.Form.{closed, share, formBound}
-use Rattle.terms.specs.Calls.{rulesForNode, rulesFor}
+use Rattle.terms.specs.Calls.{rulesFor}
 use Rattle.skeletons.specs.FormOf.{FormOf}
 use Rattle.terms.specs.Form.{Rule as FormRule}
+use Rattle.terms.proofs.Form.Bound.{bound-linear}
 use Rattle.terms.proofs.Form.Value.{derives-tree}
-use Rattle.terms.proofs.Grammar.Sum.{sum-over-cong, sum-over-le, sumBelow, sum-cong, sum-rules, rules-le}
+use Rattle.terms.proofs.Grammar.Sum.{sum-over-cong, sumBelow, sum-cong, sum-rules}
 use Rattle.terms.proofs.Grammar.Fine.{Fine, right-preorder, right-fine}
 use Rattle.skeletons.specs.Skeleton.{shut}
 use Rattle.skeletons.specs.Make.{Form, skeletonOf, make}
@@ -65,26 +65,6 @@ module _ (alphabet : List ℕ) (rules : List Rule) (p : Proper alphabet rules) w
   pub scanned-form : let x = scanned alphabet rules (length rules)
       in (start : ℕ) × (skeletonOf x (length rules - 1) ≡ shut start) × FormOf alphabet rules (x .rules) start
   scanned-form = rw (scanned-right alphabet rules p (length rules) (omega arith)) made-form
-
--- at most so many rules as a grammar may take
-
-share-le : (ranks : ℕ → ℕ) → ((r : ℕ) → ranks r ≤ 4) → (x : Name) → share ranks x ≤ rulesForNode
-share-le ranks h (terminal f) = omega arith
-share-le ranks h (nonterminal r) = omega (arith, h r)
-share-le ranks h (parameter i) = omega arith
-share-le ranks h nothing = omega arith
-
-ranks-le : (alphabet : List ℕ) (rules : List Rule) → Proper alphabet rules → (r : ℕ) → ruleRank rules r ≤ 4
-ranks-le alphabet rules p r = go (decLt r (length rules))
-  where
-    go : Dec (r < length rules) → ruleRank rules r ≤ 4
-    go (yes h) = p .proper r h .rank
-    go (no h) = omega (arith, ap (λ (x : Rule). x .rank) (List·getD-eq-default rules (record { rank = 0; nodes = [] }) {n = r} (omega arith)))
-
-pub bound-linear : (alphabet : List ℕ) (rules : List Rule) → Proper alphabet rules → formBound rules ≤ rulesFor rules
-bound-linear alphabet rules p =
-    let g = share (ruleRank rules) in
-    rules-le (λ r. sumOver g (r .nodes)) (λ r. length (r .nodes)) rulesForNode (λ r. sum-over-le g rulesForNode (share-le (ruleRank rules) (ranks-le alphabet rules p)) (r .nodes)) rules
 
 pub form-linear : (alphabet : List ℕ) (grammar : List Rule) → Proper alphabet grammar
     → {rules : List FormRule} {start : ℕ} → FormOf alphabet grammar rules start → length rules ≤ rulesFor grammar
