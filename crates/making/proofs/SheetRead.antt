@@ -6,18 +6,18 @@ use native.Mathlib.Omega.{arith}
 use borrow.Author.Tests.{lt-ltb, le-ltb}
 use lib.ListN.{length, take, drop, length-drop}
 use lib.Seq.{length-take-le}
-use Rattle.terms.specs.FormBytes.{headLength, formLength, behindHead, mostFormRules}
+use Rattle.terms.specs.FormBytes.{headLength, formLength, behindHead}
 use Rattle.terms.specs.Sheet.{bodyOffset, body, alphabetOf, rulesBody, rulesOf}
-use Rattle.terms.specs.Check.{mostTerminals, sheetRefusal}
+use Rattle.terms.specs.Check.{sheetRefusal}
 use Rattle.terms.specs.Answer.{Answer, refused, answered, answer}
-use Rattle.terms.specs.Calls.{lentAfter, rulesAsked, formAsked, makingRefusal}
+use Rattle.terms.specs.Calls.{lentAfter, formAsked, makingRefusal}
 use Rattle.terms.proofs.Form.Bound.{bound-linear}
 use Rattle.terms.proofs.Sheet.Bodies.{Joined, joined}
 use Rattle.terms.proofs.Sheet.Grammar.{rules-passed}
-use Rattle.terms.proofs.Sheet.Passed.{alphabet-passed, SheetPassed, sheet-passed}
+use Rattle.terms.proofs.Sheet.Passed.{SheetPassed, sheet-passed}
 use Rattle.skeletons.specs.Form.{madeForm}
 use Rattle.cleaning_terms.specs.Cleaning.{cleaned}
-use Rattle.sheets.proofs.Asked.{asked-small}
+use Rattle.sheets.proofs.Read.{SheetRead}
 use Rattle.sheets.specs.Sheet.{layoutOf, sheetReading}
 use Rattle.sheets.specs.declared.sheet.Layout.{Layout}
 use Rattle.right_sides.specs.Rules.{Grammar}
@@ -33,27 +33,6 @@ module _ (s : List ℕ) (room : ℕ) where
       go : (m : ℕ) → sheetRefusal s ≡ m → answer m (layoutOf s) ≡ refused n → (n ≡ makingRefusal s room) × (0 < n)
       go zero t e = absurd (let z : _≡_ {A = ℕ} 0 1 = cc in omega arith)
       go (suc m) t e = let z : n ≡ suc m = cc in (rw t z, omega arith)
-
--- a sheet that is read
-pub record SheetRead (s : List ℕ) (l : Layout) : Type 0 where
-  pub passed : sheetRefusal s ≡ 0
-  pub terminals : l .terminals ≡ length (alphabetOf s)
-  pub few : l .terminals ≤ mostTerminals
-  pub rules : l .rules ≡ length (rulesOf s)
-  pub asked : l .asked ≡ rulesAsked s
-  pub small : l .asked ≤ mostFormRules
-  pub automaton : l .automaton ≡ bodyOffset s 2
-
-pub sheet-read : (s : List ℕ) (l : Layout) → sheetReading s ≡ answered l → SheetRead s l
-sheet-read s l e = go (sheetRefusal s) refl e
-  where
-    go : (m : ℕ) → sheetRefusal s ≡ m → answer m (layoutOf s) ≡ answered l → SheetRead s l
-    go zero t e =
-        let n : l .terminals ≡ length (alphabetOf s) = cc in
-        let k : l .asked ≡ rulesAsked s = cc in
-        let few = alphabet-passed (alphabetOf s) (sheet-passed s t .alphabet) .few in
-        record { passed = t; terminals = n; few = omega arith; rules = cc; asked = k; small = omega (arith, asked-small s t); automaton = cc }
-    go (suc m) t e = absurd (let z : _≡_ {A = ℕ} 0 1 = cc in omega arith)
 
 module _ {s : List ℕ} {l : Layout} (r : SheetRead s l) where
   abbrev at : ℕ

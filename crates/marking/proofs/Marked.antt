@@ -20,7 +20,8 @@ use Rattle.sheets.specs.declared.sheet.Layout.{Layout}
 use Rattle.making.specs.Making.{formOf}
 use Rattle.making.specs.Private.Read.{FormWritten}
 use Rattle.making.proofs.Formed.{form-of, written-first}
-use Rattle.making.proofs.SheetRead.{SheetRead, too-short, long-enough}
+use Rattle.sheets.proofs.Read.{SheetRead}
+use Rattle.making.proofs.SheetRead.{too-short, long-enough}
 use Rattle.marking.specs.Marking.{SlicesLeft}
 use Rattle.marking.specs.Private.Verdict.{verdictOn}
 

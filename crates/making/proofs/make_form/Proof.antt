@@ -1,7 +1,8 @@
 -- `making::make_form` meets its contract: the tests are those of the refusal, in its order.
 use mathlib.Core.Path.{sym, ap, _∙_}
 use native.Mathlib.Omega.{arith}
-use Rattle.making.proofs.SheetRead.{sheet-refused, SheetRead, sheet-read, too-short, long-enough, none-made, form-made}
+use Rattle.sheets.proofs.Read.{SheetRead, sheet-read}
+use Rattle.making.proofs.SheetRead.{sheet-refused, too-short, long-enough, none-made, form-made}
 use borrow.Author.Needs.{needs}
 use Rattle.sheets.specs.Sheet.{answerOfReading}
 use denote.Ref.{now}

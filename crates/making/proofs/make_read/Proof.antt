@@ -1,7 +1,8 @@
 -- `making::make_read` meets its contract: the parts of a sheet that was read are a grammar over its alphabet.
 use native.Mathlib.Omega.{arith}
 use borrow.Author.Needs.{needs}
-use Rattle.making.proofs.SheetRead.{SheetRead, sheet-read, parts-there, alphabet-part, rules-part, grammar, sheet-made}
+use Rattle.sheets.proofs.Read.{SheetRead, sheet-read}
+use Rattle.making.proofs.SheetRead.{parts-there, alphabet-part, rules-part, grammar, sheet-made}
 use Rattle.making.proofs.make_read.Statement.{statement}
 use Rattle.making.proofs.make_read.Tie as tie
 

@@ -7,7 +7,8 @@ use Rattle.sheets.specs.Sheet.{answerOfReading}
 use denote.Ref.{now}
 use lib.ListN.{length}
 use Rattle.terms.specs.FormBytes.{formLength}
-use Rattle.making.proofs.SheetRead.{sheet-refused, SheetRead, sheet-read}
+use Rattle.sheets.proofs.Read.{SheetRead, sheet-read}
+use Rattle.making.proofs.SheetRead.{sheet-refused}
 use Rattle.marking.proofs.Marked.{refuses, marks, not-made, form-short, numbers-short, none-short}
 use Rattle.marking.proofs.mark.mark_sheet.Statement.{statement}
 use Rattle.marking.proofs.mark.mark_sheet.Tie as tie
@@ -41,15 +42,19 @@ read-before c = c .before .before .before
 long : (c : tie.Else1) → let layout = read-before c .layout .given .0 .0 in formLength (layout .terminals) (layout .asked) ≤ length (now (begin (read-before c .before .before) .args .form))
 long c = omega (arith, c .if1 .left, c .before .form-length .ensures)
 
+-- the test of the form's slice, seen from that of the numbers
+abbrev form-fits : tie.After-struct-known → tie.Else1
+form-fits c = c .before
+
 returns-2 : tie.Need-returns-2
 returns-2 c =
-    let test = c .before .before in
+    let test = form-fits (c .before) in
     refuses _ _ _ _ (numbers-short (known (read-before test)) _ _ (long test) (c .if2 .taken)) (λ e. omega arith)
 
 mark-read-requires : tie.Need-mark-read-requires
 mark-read-requires c κs =
     let numbers = c .before .before in
-    let test = numbers .before .before in
+    let test = form-fits (numbers .before) in
     let layout = read-before test in
     (record { read = sym (layout .before .before .read-sheet .ensures) ∙ ap answerOfReading (layout .layout .given .1); fits = long test }, numbers .if2 .left)
 
@@ -69,7 +74,7 @@ returns-4 : tie.Need-returns-4
 returns-4 c =
     let call = c .before .before .before .before in
     let numbers = call .before .before .before in
-    let test = numbers .before .before in
+    let test = form-fits (numbers .before) in
     marks _ _ _ _ (none-short (known (read-before test)) _ _ (long test) (numbers .if2 .left)) (call .mark-read .ensures .0) (call .mark-read .ensures .1)
 
 pub mark-sheet-spec : {M : Type 1} → statement M
