@@ -7,9 +7,16 @@
  * No pointer is null, also where the length is 0, and each is aligned for its type. What a call may write, slices and results, overlaps
  * nothing else that the call is given; what it only reads may overlap. Elements behind those that a call writes are kept.
  *
- * Lengths. T is the number of terminals of an alphabet: a sheet's alphabet is its first body, T bytes. G is the number of all right-side
- * nodes of a sheet as written, parameters and dropped arguments included: the sum of the node counts of its rules. R is the number of
- * rules of a form, which EWF_RULES reads from its bytes. Who does not want to count lends the largest lengths.
+ * Lengths. T is the number of terminals of an alphabet: a sheet's alphabet is its first body, T bytes. R is the number of rules of a form,
+ * which EWF_RULES reads from its bytes. What form making and marking ask for depends on the sheet: 5 + T + 12 times the sum in bytes for
+ * the form, and for marking as many numbers as the sum, which counts 2 for each terminal node of the sheet as written and 4 n - 3 for each
+ * call of a rule of rank n above 0, rules that are never called and dropped arguments included. ewf_room tells both. No form that is made
+ * has more rules than the sum, and most have fewer; the form's own R is what the calls on it ask for. A caller that does not want to ask
+ * lends what is enough for every sheet: EWF_MOST_ASKED_BYTES and EWF_MOST_ASKED_NUMBERS.
+ *
+ * Memory of marking, beside the stack: what is lent for form and relations. 12,197 bytes are enough for every sheet (7,333 bytes and 608
+ * numbers of 8 bytes), where 16 rules for each node took up to 40,997 (24,613 and 2,048); W takes 348 (212 and 17), where it took 3,528,
+ * and billions of samples/ takes 1,668 (1,004 and 83), where it took 38,728.
  *
  * Alphabets. A form carries the alphabet that it is over, behind the rule count and the start: a byte for T, and a byte for the rank of
  * each terminal. EWF_TERMINALS and EWF_ALPHABET read it. A form that is made carries the sheet's alphabet. Each call on a form is given an
@@ -19,8 +26,8 @@
  * where none writes what another one is given.
  *
  * Stack. The most bytes that each call was seen to take, on the inputs of link/stack.c, which go deepest; link/stack measures them anew.
- *   ewf_make_form 11,204    ewf_mark 11,396      ewf_evaluate 3,304     ewf_size 152     ewf_label 33,016
- *   ewf_read_rule 88        ewf_unfold 329,744   ewf_walk 524,924       ewf_wrap 216     ewf_practice 168
+ *   ewf_room 238            ewf_make_form 11,204    ewf_mark 11,396      ewf_evaluate 3,304     ewf_size 152     ewf_label 33,016
+ *   ewf_read_rule 88        ewf_unfold 329,744      ewf_walk 524,924     ewf_wrap 216           ewf_practice 168
  * Unfolding takes 144 bytes for each level of a form's rules, the walk 128 for each level of its tree. No other call goes deeper with
  * what it is given, save making and marking, which take 8,516 to 8,820 and 8,708 to 9,012 on the sheets W, K7 and billions of samples/.
  *
@@ -69,10 +76,8 @@ enum ewf_refusal {
     EWF_OTHER_ALPHABET = 28    /* the alphabet given is not the one in the form's head */
 };
 
-/* The lengths that calls ask for, in elements, by T, G and R. */
-#define EWF_FORM_RULES(G) (16 * (size_t)(G))           /* the most rules of the form of a sheet; the numbers that marking asks for */
+/* The lengths that calls ask for, in elements, by T and R. */
 #define EWF_FORM_LENGTH(T, R) (5 + (size_t)(T) + 12 * (size_t)(R))     /* the bytes of a form of T terminals and R rules */
-#define EWF_FORM_ASKED(T, G) EWF_FORM_LENGTH(T, EWF_FORM_RULES(G))     /* the bytes that form making and marking ask for */
 #define EWF_RELATIONS(R) ((size_t)(R))                 /* the numbers that evaluation asks for */
 #define EWF_COUNTS(R) (2 * (size_t)(R))                /* the numbers that size, label and unfolding ask for */
 #define EWF_RULE_NUMBERS 7                             /* the numbers of a rule that is read */
@@ -91,11 +96,13 @@ enum ewf_refusal {
 
 /* The largest of each. */
 #define EWF_LONGEST_SHEET 1832
-#define EWF_MOST_NODES 128                             /* G of a sheet, and the nodes of a tree that is wrapped */
+#define EWF_MOST_NODES 128                             /* the right-side nodes of a sheet, and the nodes of a tree that is wrapped */
 #define EWF_MOST_TERMINALS 32                          /* T of an alphabet */
 #define EWF_MOST_RULES 2048                            /* R of a form */
 #define EWF_LONGEST_FORM EWF_FORM_LENGTH(EWF_MOST_TERMINALS, EWF_MOST_RULES)
 #define EWF_MOST_COUNTS EWF_COUNTS(EWF_MOST_RULES)
+#define EWF_MOST_ASKED_NUMBERS 608                     /* the numbers that marking asks for, and the rules of a form that is made */
+#define EWF_MOST_ASKED_BYTES EWF_FORM_LENGTH(EWF_MOST_TERMINALS, EWF_MOST_ASKED_NUMBERS)     /* for form making and marking */
 #define EWF_MOST_WALKED 4096                           /* the nodes of a tree that is walked */
 #define EWF_MOST_DRAWN 20                              /* the rules of a practice sheet that are drawn */
 
@@ -103,8 +110,13 @@ enum ewf_refusal {
 #define EWF_PRACTICE_TERMINALS 3
 #define EWF_PRACTICE_ALPHABET {0, 1, 2}
 
+/* How much form making and marking ask for: bytes for the form, and numbers for marking. With one less they are refused, by 17 or by 19.
+ * Refused by 1 to 16 (the sheet). */
+uint8_t ewf_room(const uint8_t *sheet, size_t sheet_length,
+                 size_t *form_bytes, size_t *numbers);
+
 /* The one-hole form of a sheet, and its length.
- * form: EWF_FORM_ASKED(T, G) bytes, EWF_LONGEST_FORM at most.
+ * form: as many bytes as ewf_room tells, EWF_MOST_ASKED_BYTES at most.
  * Refused by 1 to 16 (the sheet), 17. */
 uint8_t ewf_make_form(const uint8_t *sheet, size_t sheet_length,
                       uint8_t *form, size_t form_length,
@@ -182,7 +194,8 @@ uint8_t ewf_practice(uint32_t first, size_t m,
 
 /* Marks a sheet of a candidate: verdict 1 accepted, 0 declined, and the mask. It ends as form making and evaluation leave form and
  * relations.
- * form: EWF_FORM_ASKED(T, G) bytes; relations: EWF_FORM_RULES(G) numbers, EWF_MOST_RULES at most; candidate: below EWF_CANDIDATES;
+ * form, relations: as many bytes and numbers as ewf_room tells, EWF_MOST_ASKED_BYTES and EWF_MOST_ASKED_NUMBERS at most; candidate: below
+ * EWF_CANDIDATES;
  * tally: EWF_TALLY_COUNTS counts, of which that of the candidate and the answer goes up by one: accepted, declined, turned away (1 to 16).
  * The counts of other candidates are neither looked at nor changed.
  * Refused by 19 (a tally that is too short, before all else), 26 (the candidate), 25 (its counts), 1 to 16 (the sheet), 17,

@@ -1,5 +1,5 @@
-/* The calls on the sheet W of document 01: its mark, its form, and from the form the mask, the size, each label and the tree; then a call with the alphabet
- * of another lesson. */
+/* The calls on the sheet W of document 01: how much its mark asks for, its mark, its form, and from the form the mask, the size, each label and the tree;
+ * then a call with the alphabet of another lesson. */
 #include <inttypes.h>
 #include <stdio.h>
 #include "ewerflint.h"
@@ -17,8 +17,13 @@ static const uint8_t W[58] = {
     0x01, 0x00, 0x00, 0x00, 0xFF, 0xFF,
 };
 
-/* The right-side nodes of W's three rules, where W's alphabet and automaton lie, room for its tree, and the candidate that W is marked for. */
-enum { NODES = 3 + 4 + 4, ALPHABET = 12, TERMINALS = 3, AUTOMATON = 32, ROOM = 16, CANDIDATE = 2 };
+/* Where W's alphabet and automaton lie, room for its tree, and the candidate that W is marked for. */
+enum { ALPHABET = 12, TERMINALS = 3, AUTOMATON = 32, ROOM = 16, CANDIDATE = 2 };
+
+/* What is lent: the first elements of these. */
+static uint8_t form[EWF_MOST_ASKED_BYTES];
+static uint64_t relations[EWF_MOST_ASKED_NUMBERS];
+static uint64_t counts[EWF_COUNTS(EWF_MOST_ASKED_NUMBERS)];
 
 static const uint8_t *const alphabet = W + ALPHABET;
 static const uint8_t *const automaton = W + AUTOMATON;
@@ -31,15 +36,14 @@ static int refused(const char *call, uint8_t refusal)
     return refusal != EWF_NOT_REFUSED;
 }
 
-static int mark_sheet(void)
+/* Marks W in just the room that it asks for. */
+static int mark_sheet(size_t form_bytes, size_t numbers)
 {
-    uint8_t form[EWF_FORM_ASKED(TERMINALS, NODES)];
-    uint64_t relations[EWF_FORM_RULES(NODES)];
     uint32_t tally[EWF_TALLY_COUNTS] = {0};
     uint8_t verdict = 0;
     uint8_t mask = 0;
 
-    if (refused("mark", ewf_mark(W, sizeof W, form, sizeof form, relations, EWF_FORM_RULES(NODES), CANDIDATE, tally, EWF_TALLY_COUNTS, &verdict, &mask))) {
+    if (refused("mark", ewf_mark(W, sizeof W, form, form_bytes, relations, numbers, CANDIDATE, tally, EWF_TALLY_COUNTS, &verdict, &mask))) {
         return 1;
     }
     printf("mark: %s %u, tally of candidate %d: %" PRIu32 " %" PRIu32 " %" PRIu32 "\n", verdict == 1 ? "accepted" : "declined", (unsigned)mask, CANDIDATE,
@@ -47,9 +51,8 @@ static int mark_sheet(void)
     return 0;
 }
 
-static int evaluate(const uint8_t *form, size_t length)
+static int evaluate(size_t length)
 {
-    uint64_t relations[EWF_FORM_RULES(NODES)];
     uint8_t mask = 0;
 
     if (refused("evaluate", ewf_evaluate(alphabet, TERMINALS, automaton, sizeof W - AUTOMATON, form, length, relations, EWF_RELATIONS(EWF_RULES(form)), &mask))) {
@@ -59,9 +62,8 @@ static int evaluate(const uint8_t *form, size_t length)
     return 0;
 }
 
-static int print_labels(const uint8_t *form, size_t length)
+static int print_labels(size_t length)
 {
-    uint64_t counts[EWF_COUNTS(EWF_FORM_RULES(NODES))];
     size_t asked = EWF_COUNTS(EWF_RULES(form));
     uint64_t size = 0;
 
@@ -81,9 +83,8 @@ static int print_labels(const uint8_t *form, size_t length)
     return 0;
 }
 
-static int unfold(const uint8_t *form, size_t length)
+static int unfold(size_t length)
 {
-    uint64_t counts[EWF_COUNTS(EWF_FORM_RULES(NODES))];
     uint8_t tree[ROOM];
     size_t nodes = 0;
 
@@ -99,10 +100,9 @@ static int unfold(const uint8_t *form, size_t length)
 }
 
 /* The alphabet of another lesson, in which f and h have each other's rank, is refused. */
-static int give_other_alphabet(const uint8_t *form, size_t length)
+static int give_other_alphabet(size_t length)
 {
     static const uint8_t other[TERMINALS] = {0, 1, 2};
-    uint64_t counts[EWF_COUNTS(EWF_FORM_RULES(NODES))];
     uint64_t size = 0;
     uint8_t refusal = ewf_size(other, TERMINALS, form, length, counts, EWF_COUNTS(EWF_RULES(form)), &size);
 
@@ -112,12 +112,17 @@ static int give_other_alphabet(const uint8_t *form, size_t length)
 
 int main(void)
 {
-    uint8_t form[EWF_FORM_ASKED(TERMINALS, NODES)];
+    size_t form_bytes = 0;
+    size_t numbers = 0;
     size_t length = 0;
 
-    if (mark_sheet() || refused("make form", ewf_make_form(W, sizeof W, form, sizeof form, &length))) {
+    if (refused("room", ewf_room(W, sizeof W, &form_bytes, &numbers))) {
+        return 1;
+    }
+    printf("room: %zu bytes, %zu numbers\n", form_bytes, numbers);
+    if (mark_sheet(form_bytes, numbers) || refused("make form", ewf_make_form(W, sizeof W, form, form_bytes, &length))) {
         return 1;
     }
     printf("form: %zu rules, %zu terminals, %zu bytes\n", EWF_RULES(form), EWF_TERMINALS(form), length);
-    return evaluate(form, length) || print_labels(form, length) || unfold(form, length) || give_other_alphabet(form, length);
+    return evaluate(length) || print_labels(length) || unfold(length) || give_other_alphabet(length);
 }

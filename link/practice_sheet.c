@@ -34,7 +34,7 @@ static void print(const char *name, const uint8_t *bytes, size_t length)
 
 static int unfold(const uint8_t *form, size_t length)
 {
-    static uint64_t counts[EWF_MOST_COUNTS];
+    static uint64_t counts[EWF_COUNTS(EWF_MOST_ASKED_NUMBERS)];
     uint8_t tree[ROOM];
     size_t nodes = 0;
 
@@ -48,7 +48,7 @@ static int unfold(const uint8_t *form, size_t length)
 int main(void)
 {
     static uint8_t sheet[EWF_LONGEST_SHEET];
-    static uint8_t form[EWF_LONGEST_FORM];
+    static uint8_t form[EWF_MOST_ASKED_BYTES];
     size_t length = 0;
     size_t written = 0;
 

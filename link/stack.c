@@ -27,7 +27,7 @@ static uint8_t tree[EWF_MOST_WALKED];
 static uint8_t masks[EWF_MOST_WALKED];
 static uint8_t sheet[EWF_LONGEST_SHEET];
 static size_t sheet_length;
-static uint8_t written[EWF_LONGEST_FORM];
+static uint8_t written[EWF_MOST_ASKED_BYTES];
 static uint32_t tally[EWF_TALLY_COUNTS];
 
 static void require(uint8_t refusal)
@@ -93,6 +93,15 @@ static void *empty(void *unused)
     return unused;
 }
 
+static void *room(void *unused)
+{
+    size_t form_bytes;
+    size_t count;
+
+    require(ewf_room(sheet, sheet_length, &form_bytes, &count));
+    return unused;
+}
+
 static void *make(void *unused)
 {
     size_t length;
@@ -106,7 +115,7 @@ static void *mark(void *unused)
     uint8_t verdict;
     uint8_t mask;
 
-    require(ewf_mark(sheet, sheet_length, written, sizeof written, numbers, EWF_MOST_RULES, 0, tally, EWF_TALLY_COUNTS, &verdict, &mask));
+    require(ewf_mark(sheet, sheet_length, written, sizeof written, numbers, EWF_MOST_ASKED_NUMBERS, 0, tally, EWF_TALLY_COUNTS, &verdict, &mask));
     return unused;
 }
 
@@ -225,7 +234,7 @@ int main(void)
         const char *name;
         void *(*call)(void *);
     } calls[] = {
-        {"make form", make}, {"mark", mark}, {"evaluate", evaluate}, {"size", size}, {"label", label}, {"unfold", unfold},
+        {"room", room}, {"make form", make}, {"mark", mark}, {"evaluate", evaluate}, {"size", size}, {"label", label}, {"unfold", unfold},
         {"read rule", read_rule}, {"walk, chain", walk_chain}, {"walk, comb", walk_comb}, {"wrap", wrap}, {"practice", practice},
     };
     size_t nothing = taken(empty);

@@ -91,6 +91,12 @@ unsafe extern "C" {
         sheet_length: usize,
         length: *mut usize,
     ) -> u8;
+    fn ewf_room(
+        sheet: *const u8,
+        sheet_length: usize,
+        form_bytes: *mut usize,
+        numbers: *mut usize,
+    ) -> u8;
     fn ewf_mark(
         sheet: *const u8,
         sheet_length: usize,
@@ -208,6 +214,10 @@ impl FixedCalls for Ewerflint {
         length: &mut usize,
     ) -> u8 {
         call!(ewf_practice[first, m](automaton; sheet; ; ; length))
+    }
+
+    fn room(&self, sheet: &[u8], form_bytes: &mut usize, numbers: &mut usize) -> u8 {
+        call!(ewf_room(sheet; ; ; ; form_bytes, numbers))
     }
 }
 

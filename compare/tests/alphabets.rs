@@ -106,8 +106,8 @@ fn one_to_32_terminals() {
 #[test]
 fn what_making_asks_for() {
     let facts = Facts::of(&rows::sheet("K1 W"));
-    assert_eq!(making::allowed(&facts, 2119).err(), Some(Refusal(17)));
-    assert!(making::allowed(&facts, 2120).is_ok());
+    assert_eq!(making::allowed(&facts, 211).err(), Some(Refusal(17)));
+    assert!(making::allowed(&facts, 212).is_ok());
 }
 
 #[test]

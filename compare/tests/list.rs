@@ -69,7 +69,7 @@ fn the_reference_keeps_the_laws_where_counts_fill_up() {
         let mut refusals = Vec::new();
         for _ in 0..2000 {
             let (candidate, facts) = (random.below(17), random.pick(&facts));
-            let (form, relations) = (random.between(2119, 2120), random.between(175, 176));
+            let (form, relations) = (random.between(211, 212), random.between(16, 17));
             let answer = marking::allowed(list.tally(), candidate, facts, form, relations);
             let call = Answered {
                 candidate,

@@ -33,7 +33,7 @@ fn the_examples() {
 fn nodes_are_counted_as_written() {
     let longest = facts(&long(128));
     assert_eq!((longest.sheet.node_count(), longest.whole.length), (128, 1));
-    assert_eq!((longest.form_need(), longest.relations_need()), (24_584, 2048));
+    assert_eq!((longest.sheet.form_need(), longest.sheet.relations_need()), (3092, 257));
     assert_eq!(Facts::of(&sheet(&long(129), LEAVES)).err(), Some(Refusal(7)));
 }
 

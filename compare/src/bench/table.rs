@@ -21,6 +21,7 @@ const ROUNDS: usize = 5;
 enum Call {
     Mark,
     MakeForm,
+    Room,
     Evaluate,
     Label,
     Unfold,
@@ -32,6 +33,7 @@ impl Call {
         match self {
             Call::Mark => "mark",
             Call::MakeForm => "make form",
+            Call::Room => "room",
             Call::Evaluate => "evaluate",
             Call::Label => "label",
             Call::Unfold => "unfold",
@@ -56,7 +58,7 @@ pub fn print(engine: &dyn Engine, subjects: &[Subject]) {
     );
     for subject in subjects {
         let prepared = prepare(engine, subject);
-        let mut calls = vec![Call::Mark, Call::MakeForm, Call::Evaluate, Call::Label];
+        let mut calls = vec![Call::Mark, Call::MakeForm, Call::Room, Call::Evaluate, Call::Label];
         if prepared.facts.whole.length == 4096 {
             calls.extend([Call::Unfold, Call::Walk]);
         }
@@ -90,7 +92,7 @@ fn beside(engine: &dyn Engine, call: &str, time: impl Fn(&dyn Engine) -> f64) ->
 fn prepare(engine: &dyn Engine, subject: &Subject) -> Prepared {
     let sheet = subject.sheet.clone();
     let facts = Facts::of(&sheet).expect("a lawful sheet");
-    let (mut form, mut written) = (vec![0; facts.form_need()], 0);
+    let (mut form, mut written) = (vec![0; facts.sheet.form_need()], 0);
     assert_eq!(engine.make_form(&sheet, &mut form, &mut written), 0);
     form.truncate(written);
     Prepared { sheet, facts, form }
@@ -99,10 +101,10 @@ fn prepare(engine: &dyn Engine, subject: &Subject) -> Prepared {
 fn time(engine: &dyn Engine, prepared: &Prepared, call: Call) -> f64 {
     let Prepared { sheet, facts, form } = prepared;
     let (alphabet, automaton) = (&facts.sheet.alphabet_body, &facts.sheet.automaton_body);
-    let mut bytes = vec![0; facts.form_need().max(4096)];
-    let mut numbers = vec![0; facts.relations_need().max(form.len())];
+    let mut bytes = vec![0; facts.sheet.form_need().max(4096)];
+    let mut numbers = vec![0; facts.sheet.relations_need().max(form.len())];
     let mut tally = [0; COUNTS];
-    let (mut length, mut verdict, mut mask) = (0, 0, 0);
+    let (mut length, mut asked, mut verdict, mut mask) = (0, 0, 0, 0);
     let tree = facts.tree.as_deref().unwrap_or_default();
     let position = facts.whole.length / 3 * 2;
     best(|| {
@@ -117,13 +119,14 @@ fn time(engine: &dyn Engine, prepared: &Prepared, call: Call) -> f64 {
                 &mut mask,
             ),
             Call::MakeForm => engine.make_form(sheet, &mut bytes, &mut length),
+            Call::Room => engine.room(sheet, &mut length, &mut asked),
             Call::Evaluate => engine.evaluate(alphabet, automaton, form, &mut numbers, &mut mask),
             Call::Label => engine.label(alphabet, form, position, &mut numbers, &mut mask),
             Call::Unfold => engine.unfold(alphabet, form, &mut numbers, &mut bytes, &mut length),
             Call::Walk => engine.walk(alphabet, automaton, tree, &mut bytes, &mut mask),
         };
         assert_eq!(code, 0);
-        black_box((&bytes, &numbers, &tally, length, verdict, mask));
+        black_box((&bytes, &numbers, &tally, length, asked, verdict, mask));
     })
 }
 

@@ -18,6 +18,7 @@ pub mod random;
 pub mod right_side;
 pub mod shapes;
 pub mod sheets;
+pub mod sums;
 pub mod tallies;
 pub mod thinning;
 pub mod trees;

@@ -5,16 +5,18 @@ use super::mixed::{Kind, mixed};
 use super::plan::Plan;
 use super::random::Random;
 use super::shapes;
+use super::sums;
 use super::thinning;
 use super::wide_shapes;
 
 /// A lawful sheet, in parts. In about half of them rules leave out parameters or are one alone.
 pub fn plan(random: &mut Random) -> Plan {
-    match random.below(16) {
+    match random.below(18) {
         0..=7 => exact(random),
         8..=10 => mixed(random, Kind::Wide),
         11..=12 => thinned(random),
-        _ => wide_shapes::shape(random),
+        13..=15 => wide_shapes::shape(random),
+        _ => sums::shape(random),
     }
 }
 

@@ -27,7 +27,8 @@ pub fn shape(random: &mut Random) -> Plan {
     finished(random, rules)
 }
 
-fn finished(random: &mut Random, rules: Vec<RulePlan>) -> Plan {
+/// The plan of rules over the common alphabet, with an automaton.
+pub fn finished(random: &mut Random, rules: Vec<RulePlan>) -> Plan {
     let alphabet = ALPHABET.to_vec();
     let automaton = mixed::automaton(random, &alphabet, &rules);
     let mut plan = Plan { alphabet, rules, automaton };

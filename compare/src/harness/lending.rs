@@ -99,8 +99,10 @@ pub struct Lent {
     /// Only marking is lent one; other calls have none.
     pub tally: Lending<u32>,
     pub rule: [u16; 7],
-    /// Written length.
+    /// Written length, or the bytes that are asked for.
     pub length: usize,
+    /// The numbers that are asked for.
+    pub asked: usize,
     pub size: u64,
     /// Mask or terminal.
     pub byte: u8,
@@ -115,6 +117,7 @@ impl Lent {
             tally: Lending::new(random, 0),
             rule: [random.word() as u16; 7],
             length: random.word() as usize,
+            asked: random.word() as usize,
             size: random.word(),
             byte: random.byte(),
             verdict: random.byte(),
@@ -122,13 +125,14 @@ impl Lent {
     }
 
     /// The parts as text, by name.
-    pub fn parts(&self) -> [(&'static str, String); 8] {
+    pub fn parts(&self) -> [(&'static str, String); 9] {
         [
             ("bytes", counted(self.bytes.slice())),
             ("numbers", counted(self.numbers.slice())),
             ("tally", counted(self.tally.slice())),
             ("rule", format!("{:?}", self.rule)),
             ("length", self.length.to_string()),
+            ("numbers asked for", self.asked.to_string()),
             ("size", self.size.to_string()),
             ("mask or terminal", self.byte.to_string()),
             ("verdict", self.verdict.to_string()),
@@ -143,6 +147,12 @@ fn counted<T: Cell + LowerHex>(cells: &[T]) -> String {
 /// A length that suffices.
 pub fn enough(random: &mut Random, need: usize) -> usize {
     need + *random.pick(&[0, 0, 1, 2, 40])
+}
+
+/// A length that is too short, though not for what is written, if that is shorter than what is
+/// needed.
+pub fn short(random: &mut Random, written: usize, need: usize) -> usize {
+    random.between(written.min(need - 1), need - 1)
 }
 
 /// A length around what is needed: exact, one less, one more, none, or any.

@@ -50,6 +50,7 @@ impl Checker<'_> {
             self.sheet(random, &rows::sheet(name))?;
         }
         self.named_wide(random)?;
+        self.named_room(random)?;
         self.named_markings(random, &w)?;
         self.named_form_calls(random, &w)?;
         self.named_alphabets(random)?;
@@ -61,8 +62,8 @@ impl Checker<'_> {
     fn named_form_calls(&mut self, random: &mut Random, w: &[u8]) -> Checked<()> {
         let alphabet = &Sheet::read(w).expect("a lawful sheet").alphabet_body;
         let facts = Facts::of(w);
-        self.make_form(w, &facts, &Lent::new(random, 2119, 0))?;
-        let form = self.make_form(w, &facts, &Lent::new(random, 2120, 0))?.unwrap_or_default();
+        self.make_form(w, &facts, &Lent::new(random, 211, 0))?;
+        let form = self.make_form(w, &facts, &Lent::new(random, 212, 0))?.unwrap_or_default();
         let count = rules_behind(&form);
         let size = Request::Size { alphabet, form: &form[..3.min(form.len())] };
         let unfold = Request::Unfold { alphabet, form: &form };

@@ -11,7 +11,7 @@ use crate::reference::tally::{COUNTS, Tally, ZERO};
 use crate::rows;
 
 /// The bytes and the numbers that a marking of W asks for.
-const NEEDS: [usize; 2] = [2120, 176];
+const NEEDS: [usize; 2] = [212, 17];
 
 /// A tally with one full count of a candidate.
 fn full(candidate: usize, way: usize) -> Tally {
@@ -23,7 +23,7 @@ fn full(candidate: usize, way: usize) -> Tally {
 impl Checker<'_> {
     /// All of them.
     pub fn named_markings(&mut self, random: &mut Random, w: &[u8]) -> Checked<()> {
-        self.named_marking(random, 0, w, [2120, 175], &ZERO)?;
+        self.named_marking(random, 0, w, [212, 16], &ZERO)?;
         for way in 0..3 {
             self.named_marking(random, 0, w, NEEDS, &full(0, way))?;
             // Candidate 2 is refused before the sheet is looked at, and candidate 3 marks on.

@@ -9,7 +9,7 @@ use crate::reference::sheet::Sheet;
 use crate::rows;
 
 /// W's automaton, and one with the transition of a to 0 only.
-const OF_W: &str =
+pub const OF_W: &str =
     "02 01, 00 00 FF FF FF FF, 02 01 00 FF FF FF, 02 00 01 FF FF FF, 01 00 00 00 FF FF";
 const LEAVES_ONLY: &str = "02 01, 00 00 FF FF FF FF";
 

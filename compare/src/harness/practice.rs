@@ -37,7 +37,8 @@ impl Checker<'_> {
         let told = |finding| Difference::told("practice", request.inputs(), &lent, finding);
         let known = lawful(&facts).map_err(told)?;
         described.check(known).map_err(told)?;
-        let form_length = enough(random, known.form_need());
+        self.room(random, sheet)?;
+        let form_length = enough(random, known.sheet.form_need());
         let made = self.make_form(sheet, &facts, &Lent::new(random, form_length, 0))?;
         self.unfolds(random, &described, &made.unwrap_or_default())
     }

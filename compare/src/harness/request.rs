@@ -14,6 +14,7 @@ pub enum Request<'a> {
     Walk { alphabet: &'a [u8], automaton: &'a [u8], tree: &'a [u8] },
     Wrap { alphabet: &'a [u8], tree: &'a [u8], automaton: &'a [u8] },
     Practice { first: u32, m: usize, automaton: &'a [u8] },
+    Room { sheet: &'a [u8] },
 }
 
 impl<'a> Request<'a> {
@@ -45,6 +46,7 @@ impl<'a> Request<'a> {
             Request::Practice { first, m, automaton } => {
                 engine.practice(first, m, automaton, bytes, &mut lent.length)
             }
+            Request::Room { sheet } => engine.room(sheet, &mut lent.length, &mut lent.asked),
         }
     }
 
@@ -58,6 +60,7 @@ impl<'a> Request<'a> {
             Request::Walk { .. } => "walk",
             Request::Wrap { .. } => "wrap",
             Request::Practice { .. } => "practice",
+            Request::Room { .. } => "room",
         }
     }
 
@@ -92,6 +95,7 @@ impl<'a> Request<'a> {
                 vec![("alphabet", alphabet), ("automaton", automaton), ("tree", tree)]
             }
             Request::Practice { automaton, .. } => vec![("automaton", automaton)],
+            Request::Room { sheet } => vec![("sheet", sheet)],
         }
     }
 }

@@ -16,15 +16,17 @@ use crate::refusal::Answer;
 impl Checker<'_> {
     pub fn sheet(&mut self, random: &mut Random, sheet: &[u8]) -> Checked<()> {
         let facts = Facts::of(sheet);
+        let asked = self.room(random, sheet)?;
         let length = match &facts {
-            Ok(known) => around(random, known.form_need()),
+            Ok(known) => around(random, known.sheet.form_need()),
             // Too short a slice must not be told before 1 to 16.
             Err(_) => *random.pick(&[0, 3, 100, LONGEST_FORM]),
         };
         self.make_form(sheet, &facts, &Lent::new(random, length, 0))?;
-        if let Ok(known) = &facts {
+        if let (Ok(known), Some(asked)) = (&facts, asked) {
             let form = self.form_of(random, sheet, &facts, known)?;
             self.follow(random, known, &form)?;
+            self.lent_as_asked(random, sheet, &facts, &form, asked)?;
         }
         self.markings(random, sheet, &facts)
     }
@@ -37,9 +39,10 @@ impl Checker<'_> {
         facts: &Answer<Facts>,
         known: &Facts,
     ) -> Checked<Vec<u8>> {
-        let length = enough(random, known.form_need());
+        let need = known.sheet.form_need();
+        let length = enough(random, need);
         let first = self.make_form(sheet, facts, &Lent::new(random, length, 0))?;
-        let length = enough(random, known.form_need());
+        let length = enough(random, need);
         let lent = Lent::new(random, length, 0);
         let second = self.make_form(sheet, facts, &lent)?;
         if first != second {
@@ -78,7 +81,7 @@ impl Checker<'_> {
         facts: &Answer<Facts>,
     ) -> Checked<()> {
         let (form, relations) = match facts {
-            Ok(known) => (known.form_need(), known.relations_need()),
+            Ok(known) => (known.sheet.form_need(), known.sheet.relations_need()),
             Err(_) => (random.below(200), random.below(200)),
         };
         let lengths = [

@@ -61,7 +61,7 @@ impl Automaton {
         self.rows(terminal).iter().fold(0, |all, row| all | row.fits(sets) << row.target)
     }
 
-    fn grouped(finals: u8, transitions: &[[u8; 6]]) -> Self {
+    pub fn grouped(finals: u8, transitions: &[[u8; 6]]) -> Self {
         let mut starts = [0; 33];
         for transition in transitions {
             starts[usize::from(transition[0]) + 1] += 1;

@@ -1,4 +1,4 @@
-//! The ten calls over the parts of this module.
+//! The eleven calls over the parts of this module.
 
 use super::alphabet::Alphabet;
 use super::automaton::Automaton;
@@ -97,6 +97,12 @@ fn wrapped(alphabet: &[u8], tree: &[u8], automaton: &[u8], sheet: &mut [u8]) -> 
     wrapping::wrap(alphabet, tree, automaton, sheet)
 }
 
+/// The bytes and the numbers that making and marking ask for.
+fn asked(sheet: &[u8]) -> Answer<(usize, usize)> {
+    let sheet = Sheet::read(sheet)?;
+    Ok((sheet.form_need(), sheet.most_rules))
+}
+
 impl FixedCalls for Idiomatic {
     fn evaluate(
         &self,
@@ -170,6 +176,11 @@ impl FixedCalls for Idiomatic {
         length: &mut usize,
     ) -> u8 {
         settle(practice(first, m, automaton, sheet), length)
+    }
+
+    fn room(&self, sheet: &[u8], form_bytes: &mut usize, numbers: &mut usize) -> u8 {
+        let answer = asked(sheet).inspect(|(bytes, _)| *form_bytes = *bytes);
+        settle(answer.map(|(_, most_rules)| most_rules), numbers)
     }
 }
 

@@ -5,17 +5,14 @@ use crate::refusal::{Answer, Refusal};
 
 const UNUSED: u16 = 0xFFFF;
 
-/// The bytes of sixteen rules, since no form made has more for each node of the sheet.
-const BYTES_FOR_A_NODE: usize = 16 * 12;
-
 /// The bytes of the head: rule count, start, terminal count and ranks.
 fn head_length(alphabet: Alphabet) -> usize {
     5 + alphabet.ranks().len()
 }
 
-/// The bytes that making a form of a sheet of so many nodes asks for.
-pub fn need(alphabet: Alphabet, nodes: usize) -> usize {
-    head_length(alphabet) + BYTES_FOR_A_NODE * nodes
+/// The bytes of a form of so many rules.
+pub fn length(alphabet: Alphabet, rules: usize) -> usize {
+    head_length(alphabet) + 12 * rules
 }
 
 #[derive(Clone, Copy)]
@@ -90,7 +87,7 @@ impl<'a> Form<'a> {
     pub fn write(&self, slice: &mut [u8]) -> usize {
         let ranks = self.alphabet.ranks();
         let head = head_length(self.alphabet);
-        let length = head + 12 * self.rules.len();
+        let length = length(self.alphabet, self.rules.len());
         slice[..2].copy_from_slice(&(self.rules.len() as u16).to_le_bytes());
         slice[2..4].copy_from_slice(&self.start.to_le_bytes());
         slice[4] = ranks.len() as u8;

@@ -1,5 +1,6 @@
 //! Marking a sheet, and the tally.
 
+use super::automaton::Automaton;
 use super::evaluation::evaluate;
 use super::making;
 use super::sheet::Sheet;
@@ -34,13 +35,14 @@ pub fn mark(
     if form.len() < sheet.form_need() {
         return Err(Refusal(17));
     }
-    if relations.len() < 16 * sheet.nodes {
+    if relations.len() < sheet.most_rules {
         return Err(Refusal(19));
     }
     let made = making::form(&sheet);
     made.write(form);
-    let mask = evaluate(&sheet.automaton, &made, relations);
-    let passes = mask & sheet.automaton.finals != 0;
+    let automaton = Automaton::grouped(sheet.finals, sheet.transitions);
+    let mask = evaluate(&automaton, &made, relations);
+    let passes = mask & automaton.finals != 0;
     let count = if passes { accepted } else { declined };
     *count += 1;
     Ok(Mark { accepted: passes, mask })

@@ -2,7 +2,7 @@
 
 use super::alphabet::Alphabet;
 use super::automaton::Automaton;
-use super::form::need;
+use super::form;
 use super::preorder::is_one_tree;
 use crate::refusal::{Answer, Refusal};
 
@@ -15,9 +15,11 @@ pub struct Rule<'a> {
 pub struct Sheet<'a> {
     pub alphabet: Alphabet<'a>,
     pub rules: Vec<Rule<'a>>,
-    pub automaton: Automaton,
-    /// G: all right-side nodes as written.
-    pub nodes: usize,
+    pub finals: u8,
+    /// The transitions as written, which only marking groups.
+    pub transitions: &'a [[u8; 6]],
+    /// The most rules of a form made of the sheet, and so the numbers that marking asks for.
+    pub most_rules: usize,
     /// Whether every parameter occurs and no right side is a parameter alone.
     pub is_clean: bool,
 }
@@ -29,21 +31,23 @@ impl<'a> Sheet<'a> {
         }
         let (alphabet, rules, automaton) = bodies(bytes).ok_or(Refusal(2))?;
         let alphabet = Alphabet::read(alphabet)?;
-        let (rules, nodes) = split(rules)?;
-        let mut is_clean = true;
+        let rules = split(rules)?;
+        let (mut most_rules, mut is_clean) = (0, true);
         for (number, rule) in rules.iter().enumerate() {
-            is_clean &= check(alphabet, &rules[..number], rule)?;
+            let checked = check(alphabet, &rules[..number], rule)?;
+            most_rules += checked.most_rules;
+            is_clean &= checked.is_clean;
         }
         if rules.last().is_none_or(|start| start.rank != 0) {
             return Err(Refusal(13));
         }
-        let automaton = Automaton::read(alphabet, automaton)?;
-        Ok(Sheet { alphabet, rules, automaton, nodes, is_clean })
+        let (finals, transitions) = Automaton::check(alphabet, automaton)?;
+        Ok(Sheet { alphabet, rules, finals, transitions, most_rules, is_clean })
     }
 
     /// The bytes that making the form asks for.
     pub fn form_need(&self) -> usize {
-        need(self.alphabet, self.nodes)
+        form::length(self.alphabet, self.most_rules)
     }
 }
 
@@ -60,17 +64,17 @@ fn bodies(bytes: &[u8]) -> Option<(&[u8], &[u8], &[u8])> {
     joined.then_some((alphabet, rules, automaton))
 }
 
-/// The rules and the number of their nodes: refusals 5 to 7.
-fn split(body: &[u8]) -> Answer<(Vec<Rule<'_>>, usize)> {
+/// The rules: refusals 5 to 7.
+fn split(body: &[u8]) -> Answer<Vec<Rule<'_>>> {
     let (rules, rest) = rules(body);
     if rules.is_empty() || !rest.is_empty() {
         return Err(Refusal(5));
     }
-    let nodes = rules.iter().map(|rule| rule.nodes.len()).sum();
+    let nodes: usize = rules.iter().map(|rule| rule.nodes.len()).sum();
     match (rules.len(), nodes) {
         (65.., _) => Err(Refusal(6)),
         (_, 129..) => Err(Refusal(7)),
-        _ => Ok((rules, nodes)),
+        _ => Ok(rules),
     }
 }
 
@@ -87,8 +91,26 @@ pub fn rules(body: &[u8]) -> (Vec<Rule<'_>>, &[u8]) {
     (rules, rest)
 }
 
-/// Refusals 8 to 11; the answer is whether every parameter occurs and not alone.
-fn check(alphabet: Alphabet, lower: &[Rule], rule: &Rule) -> Answer<bool> {
+/// What the check of a rule finds.
+struct Checked {
+    /// The rule's share of the sheet's.
+    most_rules: usize,
+    /// Whether every parameter occurs and not alone.
+    is_clean: bool,
+}
+
+/// The share of a node that names something of this rank: of a terminal, of a call or of a
+/// parameter.
+fn share(node: u8, rank: usize) -> usize {
+    match (node, rank) {
+        (0x00..=0x1F, _) => 2,
+        (0x40..=0x7F, 1..) => 4 * rank - 3,
+        _ => 0,
+    }
+}
+
+/// Refusals 8 to 11.
+fn check(alphabet: Alphabet, lower: &[Rule], rule: &Rule) -> Answer<Checked> {
     if rule.rank > 4 {
         return Err(Refusal(8));
     }
@@ -97,8 +119,9 @@ fn check(alphabet: Alphabet, lower: &[Rule], rule: &Rule) -> Answer<bool> {
         0x40..=0x7F => lower.get(usize::from(node - 0x40)).map(|called| usize::from(called.rank)),
         _ => (0x80..0x80 + rule.rank).contains(&node).then_some(0),
     };
-    if rule.nodes.iter().any(|&node| rank(node).is_none()) {
-        return Err(Refusal(9));
+    let mut most_rules = 0;
+    for &node in rule.nodes {
+        most_rules += share(node, rank(node).ok_or(Refusal(9))?);
     }
     if !is_one_tree(rule.nodes.iter().filter_map(|&node| rank(node))) {
         return Err(Refusal(10));
@@ -111,5 +134,6 @@ fn check(alphabet: Alphabet, lower: &[Rule], rule: &Rule) -> Answer<bool> {
         return Err(Refusal(11));
     }
     let all_occur = parameters[..usize::from(rule.rank)].iter().all(|&times| times == 1);
-    Ok(all_occur && !matches!(rule.nodes, [0x80..=0x83]))
+    let is_clean = all_occur && !matches!(rule.nodes, [0x80..=0x83]);
+    Ok(Checked { most_rules, is_clean })
 }

@@ -9,6 +9,7 @@ use super::form::{self, Form};
 use super::label;
 use super::practice;
 use super::relations;
+use super::sheet::Sheet;
 use super::tree::Tree;
 use super::unfolding;
 use crate::refusal::{Answer, Refusal};
@@ -23,7 +24,7 @@ pub fn evaluate(
     let automaton = Automaton::read(&alphabet, automaton)?;
     let form = Form::read_over(&alphabet, form)?;
     let entries = relations::of(&automaton, &form);
-    room(relations, entries.len(), 19)?;
+    long_enough(relations, entries.len(), 19)?;
     put(relations, &entries);
     Ok(entries[form.start] as u8)
 }
@@ -67,7 +68,7 @@ pub fn walk(alphabet: &[u8], automaton: &[u8], tree: &[u8], masks: &mut [u8]) ->
     let automaton = Automaton::read(&alphabet, automaton)?;
     let tree = whole_tree(&alphabet, tree, 4096)?;
     let found = tree.masks(&automaton);
-    room(masks, found.len(), 19)?;
+    long_enough(masks, found.len(), 19)?;
     put(masks, &found);
     Ok(found[0])
 }
@@ -78,7 +79,7 @@ pub fn wrap(alphabet: &[u8], tree: &[u8], automaton: &[u8], sheet: &mut [u8]) ->
     Automaton::read(&read, automaton)?;
     let rules = [&[0, tree.len() as u8], tree].concat();
     let written = joined(&[alphabet, &rules, automaton]);
-    room(sheet, written.len(), 24)?;
+    long_enough(sheet, written.len(), 24)?;
     put(sheet, &written);
     Ok(written.len())
 }
@@ -91,9 +92,21 @@ pub fn practice(first: u32, m: usize, automaton: &[u8], sheet: &mut [u8]) -> Ans
     Automaton::read(&Alphabet::read(&practice::ALPHABET)?, automaton)?;
     let rules = practice::rules(&practice::drawn(first, m));
     let written = joined(&[&practice::ALPHABET, &rules, automaton]);
-    room(sheet, written.len(), 24)?;
+    long_enough(sheet, written.len(), 24)?;
     put(sheet, &written);
     Ok(written.len())
+}
+
+/// What making and marking of a sheet ask for.
+pub struct Room {
+    pub form_bytes: usize,
+    pub numbers: usize,
+}
+
+/// Refusals 1 to 16.
+pub fn room(sheet: &[u8]) -> Answer<Room> {
+    let sheet = Sheet::read(sheet)?;
+    Ok(Room { form_bytes: sheet.form_need(), numbers: sheet.relations_need() })
 }
 
 /// A sheet of these bodies, with the contents that join them.
@@ -118,7 +131,7 @@ fn opened(alphabet: &[u8], form: &[u8]) -> Answer<Form> {
 fn counted(alphabet: &[u8], form: &[u8], counts: &[u64]) -> Answer<(Form, Vec<Count>)> {
     let form = opened(alphabet, form)?;
     let found = counts::of(&form);
-    room(counts, 2 * found.len(), 19)?;
+    long_enough(counts, 2 * found.len(), 19)?;
     Ok((form, found))
 }
 
@@ -130,7 +143,7 @@ fn whole_tree(alphabet: &Alphabet, bytes: &[u8], most: usize) -> Answer<Tree> {
     Tree::read(alphabet, bytes).ok_or(Refusal(23))
 }
 
-fn room<T>(slice: &[T], need: usize, refusal: u8) -> Answer<()> {
+fn long_enough<T>(slice: &[T], need: usize, refusal: u8) -> Answer<()> {
     if slice.len() < need { Err(Refusal(refusal)) } else { Ok(()) }
 }
 

@@ -2,7 +2,6 @@
 
 use super::derivation;
 use super::fingerprint::Fingerprint;
-use super::head;
 use super::profile::Profiles;
 use super::sheet::Sheet;
 use super::theorem;
@@ -36,16 +35,6 @@ impl Facts {
 
     pub fn accepted(&self) -> bool {
         self.mask & self.sheet.automaton.finals != 0
-    }
-
-    /// The bytes that form making asks for: those of the head and of sixteen rules for each node.
-    pub fn form_need(&self) -> usize {
-        head::length(self.sheet.alphabet_body.len()) + 192 * self.sheet.node_count()
-    }
-
-    /// The numbers that marking asks for.
-    pub fn relations_need(&self) -> usize {
-        16 * self.sheet.node_count()
     }
 }
 

@@ -80,4 +80,9 @@ impl FixedCalls for Reference {
     ) -> u8 {
         settle(calls::practice(first, m, automaton, sheet), length)
     }
+
+    fn room(&self, sheet: &[u8], form_bytes: &mut usize, numbers: &mut usize) -> u8 {
+        let answer = calls::room(sheet).inspect(|room| *form_bytes = room.form_bytes);
+        settle(answer.map(|room| room.numbers), numbers)
+    }
 }

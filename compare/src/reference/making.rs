@@ -14,7 +14,7 @@ use crate::refusal::{Answer, Refusal};
 /// The facts by which a form is made in a slice of this length: refusals 1 to 17.
 pub fn allowed(facts: &Answer<Facts>, form_length: usize) -> Answer<&Facts> {
     let facts = facts.as_ref().map_err(|refusal| *refusal)?;
-    if form_length < facts.form_need() {
+    if form_length < facts.sheet.form_need() {
         return Err(Refusal(17));
     }
     Ok(facts)

@@ -25,7 +25,7 @@ pub fn allowed_by_sheet(
     relations_length: usize,
 ) -> Answer<&Facts> {
     let facts = making::allowed(facts, form_length)?;
-    if relations_length < facts.relations_need() {
+    if relations_length < facts.sheet.relations_need() {
         return Err(Refusal(19));
     }
     Ok(facts)

@@ -2,6 +2,7 @@
 
 use super::alphabet::Alphabet;
 use super::automaton::Automaton;
+use super::head;
 use super::rules::{self, Rule};
 use super::term::Term;
 use crate::refusal::{Answer, Refusal};
@@ -37,18 +38,46 @@ impl Sheet {
     }
 
     /// 2 for each terminal node as written and 4n - 3 for each call of a rule of rank n above 0: no
-    /// form made of the sheet has more rules.
+    /// form made of the sheet has more rules. Rules that are never called and dropped arguments are
+    /// included, and ranks are as written.
     pub fn rule_bound(&self) -> usize {
         let nodes = self.rules.iter().flat_map(|rule| rule.right.nodes());
         nodes.map(|node| self.node_bound(node)).sum()
     }
 
-    fn node_bound(&self, node: &Term) -> usize {
+    /// What a node counts of that.
+    pub fn node_bound(&self, node: &Term) -> usize {
         match node {
             Term::Terminal(..) => 2,
             Term::Call(rule, _) if self.rules[*rule].rank > 0 => 4 * self.rules[*rule].rank - 3,
             _ => 0,
         }
+    }
+
+    /// Of each rule, whether the start is that rule or calls it as written, directly or through
+    /// others.
+    pub fn called_from_start(&self) -> Vec<bool> {
+        let mut called = vec![false; self.rules.len()];
+        called[self.rules.len() - 1] = true;
+        for (number, rule) in self.rules.iter().enumerate().rev() {
+            for node in rule.right.nodes() {
+                if let Term::Call(lower, _) = node {
+                    called[*lower] |= called[number];
+                }
+            }
+        }
+        called
+    }
+
+    /// The bytes that making and marking ask for: those of the head and of as many rules as the
+    /// bound.
+    pub fn form_need(&self) -> usize {
+        head::length(self.alphabet_body.len()) + 12 * self.rule_bound()
+    }
+
+    /// The numbers that marking asks for.
+    pub fn relations_need(&self) -> usize {
+        self.rule_bound()
     }
 }
 

@@ -9,6 +9,7 @@ pub enum Call {
     Make { sheet: Vec<u8>, room: usize },
     Mark { sheet: Vec<u8>, tally: Tally, room: usize, numbers: usize, candidate: usize },
     Certify { sheet: Vec<u8>, rooms: Rooms },
+    Room { sheet: Vec<u8> },
     Rule { alphabet: Vec<u8>, form: Vec<u8>, number: usize },
     Rules { alphabet: Vec<u8>, form: Vec<u8> },
     Size { alphabet: Vec<u8>, form: Vec<u8>, numbers: usize },
@@ -47,7 +48,9 @@ impl Call {
     pub fn read(text: &str) -> Option<Call> {
         let mut fields = Fields::of(text.strip_prefix(' ')?);
         let call = match fields.word()? {
-            name @ ("line" | "make" | "mark" | "certify") => sheet_call(name, &mut fields)?,
+            name @ ("line" | "make" | "mark" | "certify" | "room") => {
+                sheet_call(name, &mut fields)?
+            }
             name @ ("rule" | "rules" | "size" | "label" | "unfold") => {
                 form_call(name, &mut fields)?
             }
@@ -67,7 +70,8 @@ impl Call {
             Call::Line { sheet }
             | Call::Make { sheet, .. }
             | Call::Mark { sheet, .. }
-            | Call::Certify { sheet, .. } => Some(sheet),
+            | Call::Certify { sheet, .. }
+            | Call::Room { sheet } => Some(sheet),
             _ => None,
         }
     }
@@ -85,7 +89,8 @@ fn sheet_call(name: &str, fields: &mut Fields) -> Option<Call> {
             numbers: fields.numbers()?,
             candidate: fields.candidate()?,
         },
-        _ => Call::Certify { sheet, rooms: Rooms::read(fields)? },
+        "certify" => Call::Certify { sheet, rooms: Rooms::read(fields)? },
+        _ => Call::Room { sheet },
     })
 }
 

@@ -1,8 +1,12 @@
 //! The calls whose results the documents fix.
 
 use super::printed::{lent, slice};
-use super::words::{rule_text, said, size_text, told};
+use super::words::{room_text, rule_text, said, size_text, told};
 use crate::reference::calls;
+
+pub fn room(sheet: &[u8]) -> String {
+    told(calls::room(sheet), room_text)
+}
 
 pub fn rule(alphabet: &[u8], form: &[u8], number: usize) -> String {
     told(calls::read_rule(alphabet, form, number), rule_text)

@@ -1,5 +1,6 @@
 //! Answers as program `examples` prints them.
 
+use crate::reference::calls::Room;
 use crate::reference::tally::Tally;
 use crate::refusal::{Answer, Refusal};
 use std::fmt::Display;
@@ -22,6 +23,10 @@ pub fn size_text(size: u64) -> String {
         u64::MAX => "over".to_string(),
         exact => format!("size {exact}"),
     }
+}
+
+pub fn room_text(room: Room) -> String {
+    format!("asked {} {}", room.form_bytes, room.numbers)
 }
 
 pub fn rule_text(fields: [u16; 7]) -> String {

@@ -2,12 +2,12 @@
 //! alphabet given, in what the form is read against, and in the order of the checks.
 
 use crate::engine::{Fault, Planted};
-use crate::wide::parsed;
 use compare::calls::FixedCalls;
 use compare::generate::forms::uses;
 use compare::idiomatic::Idiomatic;
 use compare::reference::form::fields;
 use compare::reference::head::{Head, TERMINALS_AT, end, ranks};
+use compare::reference::sheet::Sheet;
 
 /// A call on a form: its name, what it is given, and whether its slice is too short for the form.
 pub struct OnForm<'a> {
@@ -112,7 +112,8 @@ impl Planted {
     /// Whether this engine has this fault, of asking for no room for the alphabet, and the slice is
     /// long enough without.
     pub fn asks_for_no_alphabet(&self, fault: Fault, sheet: &[u8], length: usize) -> bool {
-        self.has(fault) && length >= TERMINALS_AT + 192 * parsed(sheet).node_count()
+        let rules = || Sheet::read(sheet).map_or(0, |sheet| sheet.rule_bound());
+        self.has(fault) && length >= TERMINALS_AT + 12 * rules()
     }
 
     /// Spoils the head of a form that was made rightly in a slice that held these bytes, or the

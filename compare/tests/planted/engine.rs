@@ -3,6 +3,7 @@
 use crate::alphabets::{OnForm, fields_one_off};
 use crate::marking::Call;
 use crate::practice::Practice;
+use crate::sums::{Asked, Sum, made_by};
 use compare::calls::{Engine, FixedCalls};
 use compare::idiomatic::Idiomatic;
 use compare::reference::head::{LONGEST_FORM, end, rules_behind};
@@ -91,7 +92,6 @@ pub enum Fault {
     DroppedNamesNotChecked,
     DroppedTreesNotChecked,
     DroppedNodesNotCounted,
-    CleanedNodesCounted,
     LoneStillRefused,
     LoneOfRank1Only,
     LeftOutStillRefused,
@@ -123,6 +123,18 @@ pub enum Fault {
     HeadRankTold4,
     HeadOf33Taken,
     OldFormatGuessed,
+    WrongSum(Sum, Asked),
+    NumbersBeforeBytes,
+    RoomExchanged,
+    RoomForgetsAlphabet,
+    RoomForgetsTerminalCount,
+    RoomTellsRulesForBytes,
+    RoomTellsNumbersInBytes,
+    RoomTellsBytesOnRefusal,
+    RoomTellsNumbersOnRefusal,
+    RoomAddsToWhatWasHeld,
+    RoomReadsNoAutomaton,
+    RoomReadsAutomatonFirst,
 }
 
 pub struct Planted {
@@ -153,10 +165,9 @@ impl Planted {
         if !(5..=13).contains(&code) {
             return code;
         }
-        let [alphabet, rules, automaton] = bodies(sheet);
-        let of_automaton = Idiomatic.walk(alphabet, automaton, &[], &mut [], &mut 0);
-        if self.has(Fault::AutomatonBeforeRules) && (14..=16).contains(&of_automaton) {
-            return of_automaton;
+        let [_, rules, _] = bodies(sheet);
+        if self.has(Fault::AutomatonBeforeRules) {
+            return of_automaton(sheet).unwrap_or(code);
         }
         if self.has(Fault::RanksBeforeNodes) && (9..=11).contains(&code) && rank_over_4(rules) {
             return 8;
@@ -199,6 +210,13 @@ pub fn bodies(sheet: &[u8]) -> [&[u8]; 3] {
         let number = |at: usize| usize::from(sheet[at]) + 256 * usize::from(sheet[at + 1]);
         &sheet[number(entry)..number(entry) + number(entry + 2)]
     })
+}
+
+/// The refusal of the automaton of a sheet whose contents join and whose alphabet is lawful.
+pub fn of_automaton(sheet: &[u8]) -> Option<u8> {
+    let [alphabet, _, automaton] = bodies(sheet);
+    let walked = Idiomatic.walk(alphabet, automaton, &[], &mut [], &mut 0);
+    Some(walked).filter(|code| (14..=16).contains(code))
 }
 
 fn rank_over_4(mut rules: &[u8]) -> bool {
@@ -409,10 +427,17 @@ impl FixedCalls for Planted {
     ) -> u8 {
         self.practised(Practice { first, m, automaton, sheet, length })
     }
+
+    fn room(&self, sheet: &[u8], form_bytes: &mut usize, numbers: &mut usize) -> u8 {
+        self.room_told(sheet, form_bytes, numbers)
+    }
 }
 
 impl Engine for Planted {
     fn make_form(&self, sheet: &[u8], form: &mut [u8], written: &mut usize) -> u8 {
+        if let Fault::WrongSum(sum, Asked::Making) = self.fault {
+            return made_by(sum, sheet, form, written);
+        }
         let held = form.to_vec();
         if self.has(Fault::FormAsksOneMore) && !form.is_empty() {
             let shorter = form.len() - 1;
@@ -422,11 +447,8 @@ impl Engine for Planted {
             return 17;
         }
         let code = Idiomatic.make_form(&self.as_read(sheet), form, written);
-        let short = form.len();
-        if code == 17
-            && (self.takes_room_for_kept(sheet, short)
-                || self.asks_for_no_alphabet(Fault::AlphabetNotInNeed, sheet, short))
-        {
+        let fault = Fault::AlphabetNotInNeed;
+        if code == 17 && self.asks_for_no_alphabet(fault, sheet, form.len()) {
             return 0;
         }
         let code = self.other_order(sheet, code);

@@ -5,10 +5,12 @@ mod composing;
 mod engine;
 mod marking;
 mod practice;
+mod sums;
 mod wide;
 
-use compare::harness::run::run_generated;
+use compare::harness::run::{run_generated, run_named};
 use engine::{Fault, Planted};
+use sums::{Asked, SUMS};
 
 /// Each fault and the call whose difference tells of it.
 const FAULTS: [(Fault, &str); 72] = [
@@ -17,8 +19,7 @@ const FAULTS: [(Fault, &str); 72] = [
     (Fault::FormWritesPast, "make_form"),
     (Fault::FormFollowsOldBytes, "make_form"),
     (Fault::FormTooLarge, "make_form"),
-    // Marking is held to the form that the engine makes, so that it may be the first to tell.
-    (Fault::FormAsksOneMore, "mark"),
+    (Fault::FormAsksOneMore, "make_form"),
     (Fault::ParametersByAppearance, "make_form"),
     (Fault::AutomatonBeforeRules, "make_form"),
     (Fault::RanksBeforeNodes, "make_form"),
@@ -89,7 +90,7 @@ const FAULTS: [(Fault, &str); 72] = [
 
 /// Each fault of rules that leave out parameters or are one alone, the call whose difference tells
 /// of it, and words of that difference.
-const WIDE_FAULTS: [(Fault, &str, &str); 13] = [
+const WIDE_FAULTS: [(Fault, &str, &str); 12] = [
     (Fault::RunOfDroppedAsked, "mark", "mask or terminal: found    0"),
     (Fault::PresentAsWritten, "make_form", "stands for no part of the tree"),
     (Fault::RuleForDropped, "make_form", "stands for no part of the tree"),
@@ -99,7 +100,6 @@ const WIDE_FAULTS: [(Fault, &str, &str); 13] = [
     (Fault::DroppedNamesNotChecked, "make_form", "code: expected 9"),
     (Fault::DroppedTreesNotChecked, "make_form", "code: expected 10"),
     (Fault::DroppedNodesNotCounted, "make_form", "code: expected 7"),
-    (Fault::CleanedNodesCounted, "make_form", "code: expected 17, found 0"),
     (Fault::LoneStillRefused, "make_form", " 12\n"),
     (Fault::LoneOfRank1Only, "make_form", " 12\n"),
     (Fault::LeftOutStillRefused, "make_form", " 11\n"),
@@ -117,7 +117,7 @@ const ALPHABET_FAULTS: [(Fault, &str, &str); 28] = [
     (Fault::AlphabetsBeforeRules, "evaluate", "code: expected 18, found 28"),
     (Fault::CommonPartCompared, "evaluate", "code: expected 28, found"),
     (Fault::LengthCompared, "size", "code: expected 28, found"),
-    (Fault::UsedRanksCompared, "evaluate", "code: expected 28, found"),
+    (Fault::UsedRanksCompared, "size", "code: expected 28, found"),
     (Fault::RanksComparedInAnyOrder, "size", "code: expected 28, found"),
     (Fault::LastRankNotCompared, "size", "code: expected 28, found"),
     (Fault::EvaluateComparesNot, "evaluate", "code: expected 28, found"),
@@ -126,7 +126,7 @@ const ALPHABET_FAULTS: [(Fault, &str, &str); 28] = [
     (Fault::UnfoldComparesNot, "unfold", "code: expected 28, found"),
     (Fault::ReadRuleComparesNot, "read_rule", "code: expected 28, found"),
     (Fault::AlphabetsBeforeAutomaton, "evaluate", ", found 28"),
-    (Fault::ShortBeforeAlphabets, "size", "code: expected 28, found 19"),
+    (Fault::ShortBeforeAlphabets, "evaluate", "code: expected 28, found 19"),
     (Fault::LongerBeforeAlphabets, "unfold", "code: expected 28, found 20"),
     (Fault::PositionBeforeAlphabets, "label", "code: expected 28, found 21"),
     (Fault::NumberBeforeAlphabets, "read_rule", "code: expected 28, found 21"),
@@ -137,13 +137,56 @@ const ALPHABET_FAULTS: [(Fault, &str, &str); 28] = [
     (Fault::OldFormatGuessed, "evaluate", "code: expected 18, found"),
 ];
 
+/// The same of the call that tells what making and marking ask for, and of the order of 17 and 19.
+const ROOM_FAULTS: [(Fault, &str, &str); 11] = [
+    (Fault::NumbersBeforeBytes, "mark", "code: expected 17, found 19"),
+    (Fault::RoomExchanged, "room", "numbers asked for: expected"),
+    (Fault::RoomForgetsAlphabet, "room", "length: expected"),
+    (Fault::RoomForgetsTerminalCount, "room", "length: expected"),
+    (Fault::RoomTellsRulesForBytes, "room", "length: expected"),
+    (Fault::RoomTellsNumbersInBytes, "room", "numbers asked for: expected"),
+    (Fault::RoomTellsBytesOnRefusal, "room", "length: expected"),
+    (Fault::RoomTellsNumbersOnRefusal, "room", "numbers asked for: expected"),
+    (Fault::RoomAddsToWhatWasHeld, "room", "numbers asked for: expected"),
+    (Fault::RoomReadsNoAutomaton, "room", "code: expected 1"),
+    (Fault::RoomReadsAutomatonFirst, "room", "code: expected"),
+];
+
+/// Where a wrong sum is asked for, and the call whose difference tells of it.
+const PLACES: [(Asked, &str); 4] = [
+    (Asked::Room, "room"),
+    (Asked::Making, "make_form"),
+    (Asked::MarkingBytes, "mark"),
+    (Asked::MarkingNumbers, "mark"),
+];
+
 #[test]
 fn every_planted_fault_is_found() {
-    for (fault, call) in FAULTS {
-        let failure = run_generated(&Planted::new(fault), 4000, 5).err();
-        let failure = failure.unwrap_or_else(|| panic!("{fault:?} was not found"));
-        assert_eq!(failure.difference.call(), call, "{fault:?}");
+    found(&FAULTS);
+}
+
+#[test]
+fn every_wrong_sum_is_found_wherever_it_is_asked_for() {
+    for sum in SUMS {
+        found(&PLACES.map(|(asked, call)| (Fault::WrongSum(sum, asked), call)));
     }
+}
+
+#[test]
+fn the_named_examples_alone_find_every_wrong_sum() {
+    for sum in SUMS {
+        for (asked, call) in PLACES {
+            let fault = Fault::WrongSum(sum, asked);
+            let difference = run_named(&Planted::new(fault), 5).err();
+            let difference = difference.unwrap_or_else(|| panic!("{fault:?} was not found"));
+            assert_eq!(difference.call(), call, "{fault:?}");
+        }
+    }
+}
+
+#[test]
+fn every_planted_fault_of_the_room_told_is_found() {
+    found_with_words(&ROOM_FAULTS);
 }
 
 #[test]
@@ -154,6 +197,14 @@ fn every_planted_fault_of_wider_rules_is_found() {
 #[test]
 fn every_planted_fault_of_alphabets_is_found() {
     found_with_words(&ALPHABET_FAULTS);
+}
+
+fn found(faults: &[(Fault, &str)]) {
+    for &(fault, call) in faults {
+        let failure = run_generated(&Planted::new(fault), 4000, 5).err();
+        let failure = failure.unwrap_or_else(|| panic!("{fault:?} was not found"));
+        assert_eq!(failure.difference.call(), call, "{fault:?}");
+    }
 }
 
 fn found_with_words(faults: &[(Fault, &str, &str)]) {

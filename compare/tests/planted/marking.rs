@@ -1,6 +1,7 @@
 //! The faults of marking.
 
 use crate::engine::{Fault, Planted, bodies};
+use crate::sums::{Asked, marked_by};
 use compare::calls::{Engine, FixedCalls};
 use compare::idiomatic::Idiomatic;
 use compare::reference::head::{LONGEST_FORM, end, word};
@@ -52,6 +53,11 @@ impl Call<'_> {
 
 impl Planted {
     pub fn marking(&self, mut call: Call) -> u8 {
+        if let Fault::WrongSum(sum, asked @ (Asked::MarkingBytes | Asked::MarkingNumbers)) =
+            self.fault
+        {
+            return marked_by(sum, asked, call);
+        }
         if let Some(code) = self.refused_wrongly(&mut call) {
             return code;
         }
@@ -115,6 +121,9 @@ impl Planted {
         }
         let code = call.put(&sheet, &mut tally);
         call.tally.copy_from_slice(&tally[..call.tally.len()]);
+        if code == 17 && self.asks_for_numbers_first(&sheet, call.relations.len()) {
+            return 19;
+        }
         let fault = Fault::AlphabetNotInMarkingNeed;
         if code == 17 && self.asks_for_no_alphabet(fault, &sheet, call.form.len()) {
             return 0;

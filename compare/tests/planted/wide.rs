@@ -5,7 +5,7 @@ use compare::calls::Engine;
 use compare::generate::dropped::places;
 use compare::generate::plan::{Plan, RulePlan};
 use compare::idiomatic::{self, Idiomatic, form_by, parameters};
-use compare::reference::head::{self, LONGEST_FORM};
+use compare::reference::head::LONGEST_FORM;
 use compare::reference::presence::Presence;
 use compare::reference::rules::Rule;
 use compare::reference::sheet::Sheet;
@@ -56,14 +56,6 @@ impl Planted {
         }
     }
 
-    /// Whether this engine takes a slice that is too short, since it does not count what is dropped.
-    pub fn takes_room_for_kept(&self, sheet: &[u8], length: usize) -> bool {
-        let plan = parsed(sheet);
-        let kept = || plan.node_count() - places(&plan).len();
-        let need = || head::length(plan.alphabet.len()) + 192 * kept();
-        self.has(Fault::CleanedNodesCounted) && length >= need()
-    }
-
     /// Makes the form anew where this engine's cleaning takes too many parameters for present: all
     /// that are written, also those handed to a rule that drops them, or even those left out. Their
     /// arguments are kept and get rules of the form, and the tree is the same.
@@ -87,7 +79,7 @@ fn is_written(rule: &Rule, wanted: usize) -> bool {
 }
 
 /// The parts of a sheet whose contents join and whose rules end where a rule ends.
-pub fn parsed(sheet: &[u8]) -> Plan {
+fn parsed(sheet: &[u8]) -> Plan {
     let [alphabet, mut body, automaton] = bodies(sheet);
     let mut rules = Vec::new();
     while let [rank, count, behind @ ..] = body {

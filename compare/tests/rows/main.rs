@@ -19,7 +19,7 @@ fn the_sample_has_every_call() {
     let (input, output) = sample();
     let found = differences(&input, &output);
     assert!(found.is_empty(), "{}", found.join("\n"));
-    assert_eq!(line::count(&input), 62);
+    assert_eq!(line::count(&input), 67);
 }
 
 /// What is found after the first such text behind the row's name was changed in the output.
@@ -48,6 +48,10 @@ fn a_changed_answer_is_found() {
     planted("nobody", "refused 26, tally 0 (3 1 2)", "refused 26");
     planted("17", "refused 17", "refused 1");
     planted("made", "written 80", "written 88");
+    planted("asked", "asked 212 17", "asked 80 17");
+    planted("asked", "asked 212 17", "asked 212 6");
+    planted("asked", "asked 212 17", "asked 17 212");
+    planted("none asked", "refused 1", "asked 0 0");
     planted("even", "written 30", "written 31");
     planted("27", "refused 27", "refused 14");
     planted("28", "refused 28", "refused 18");
@@ -56,7 +60,7 @@ fn a_changed_answer_is_found() {
 #[test]
 fn a_changed_slice_is_found() {
     planted("size", "1 kept", "2 kept");
-    planted("made", "2044 kept", "2043 kept");
+    planted("made", "136 kept", "135 kept");
     planted("marked", "relations 1 102", "relations 1 103");
     planted("certified", "counts 1 0", "counts 1 1");
     planted("20 h", "21*00", "20*00");
@@ -89,7 +93,7 @@ fn a_line_too_few_or_too_many_is_found() {
     for missing in 0..lines.len() {
         let left = [&lines[..missing], &lines[missing + 1..]].concat().join("\n");
         let found = differences(&input, &left);
-        assert!(found[0].contains("expected 65 lines\nfound    64"), "{}", found[0]);
+        assert!(found[0].contains("expected 70 lines\nfound    69"), "{}", found[0]);
     }
     assert_eq!(differences(&input, &format!("{output}more\n")).len(), 1);
     assert_eq!(differences(&input, output.trim_end()).len(), 1);

@@ -41,27 +41,33 @@ const NOBODY: &str = "000000000000000000000000";
 const HEADINGS: [(&str, &str); 3] =
     [("# A heading: line 00", "# A heading: line 00"), ("", ""), ("#", "#")];
 
-const SHEET_CALLS: [(&str, &str); 10] = [
+const SHEET_CALLS: [(&str, &str); 13] = [
     ("K1 W: line $w", "K1 W: accepted 1 7"),
     (": line $contents+$alphabet+$rules+0202+$transitions", ": declined 1 7"),
     ("empty: line -", "empty: refused 1"),
     ("65 rules: line 0C0003000F00C300D2000200+$alphabet+65*000100+0201", "65 rules: refused 6"),
-    ("made: make $w 2124", "made: written 80; $made, 2044 kept"),
-    ("17: make $w 2119", "17: refused 17; form 2119 kept"),
+    ("asked: room $w", "asked: asked 212 17"),
     (
-        "certified: certify $w 2120 7 13 8 9",
+        "65 rules asked: room 0C0003000F00C300D2000200+$alphabet+65*000100+0201",
+        "65 rules asked: refused 6",
+    ),
+    ("none asked: room -", "none asked: refused 1"),
+    ("made: make $w 216", "made: written 80; $made, 136 kept"),
+    ("17: make $w 211", "17: refused 17; form 211 kept"),
+    (
+        "certified: certify $w 212 7 13 8 9",
         "certified: written 80, mask 1, written 7, mask 1; $counts, 1 kept; $tree, 1 kept; \
-         $masks, 2 kept; $made, 2040 kept; $relations, 1 kept",
+         $masks, 2 kept; $made, 132 kept; $relations, 1 kept",
     ),
     (
-        "20 of four: certify $w 2120 6 12 6 9",
+        "20 of four: certify $w 212 6 12 6 9",
         "20 of four: written 80, mask 1, refused 20, refused 20; counts 12 kept; tree 6 kept; \
-         masks 9 kept; $made, 2040 kept; $relations, 0 kept",
+         masks 9 kept; $made, 132 kept; $relations, 0 kept",
     ),
     (
-        "19 of four: certify $w 2120 5 12 7 6",
+        "19 of four: certify $w 212 5 12 7 6",
         "19 of four: written 80, refused 19, written 7, refused 19; $counts, 0 kept; $tree, 0 kept; \
-         masks 6 kept; $made, 2040 kept; relations 5 kept",
+         masks 6 kept; $made, 132 kept; relations 5 kept",
     ),
     (
         "1 of four: certify - 1 2 3 4 5",
@@ -72,12 +78,12 @@ const SHEET_CALLS: [(&str, &str); 10] = [
 
 const MARKINGS: [(&str, &str); 10] = [
     (
-        "marked: mark $w $tally 2120 176 0",
-        "marked: accepted 1, tally 0 (4 1 2); $made, 2040 kept; $relations, 170 kept",
+        "marked: mark $w $tally 212 17 0",
+        "marked: accepted 1, tally 0 (4 1 2); $made, 132 kept; $relations, 11 kept",
     ),
     (
-        "declined: mark $contents+$alphabet+$rules+0202+$transitions $tally 2120 177 3",
-        "declined: declined 1, tally 0 (3 1 2) 3 (0 1 0); $made, 2040 kept; $relations, 171 kept",
+        "declined: mark $contents+$alphabet+$rules+0202+$transitions $tally 212 18 3",
+        "declined: declined 1, tally 0 (3 1 2) 3 (0 1 0); $made, 132 kept; $relations, 12 kept",
     ),
     (
         "turned away: mark - - 0 0 15",
@@ -88,8 +94,8 @@ const MARKINGS: [(&str, &str); 10] = [
         "17 from zero: refused 17, tally; form 2 kept; relations 1 kept",
     ),
     (
-        "19: mark $w $tally 2120 175 0",
-        "19: refused 19, tally 0 (3 1 2); form 2120 kept; relations 175 kept",
+        "19: mark $w $tally 212 16 0",
+        "19: refused 19, tally 0 (3 1 2); form 212 kept; relations 16 kept",
     ),
     (
         "25: mark - $tally+2*$nobody+0000000000000000FFFFFFFF 4 99999 3",
@@ -105,8 +111,8 @@ const MARKINGS: [(&str, &str); 10] = [
         "26: refused 26, tally 0 (4294967295 0 0); form 4 kept; relations 0 kept",
     ),
     (
-        "26 far beyond: mark $w 07 2120 176 99999999999999999999",
-        "26 far beyond: refused 26, tally 0 (7 0 0); form 2120 kept; relations 176 kept",
+        "26 far beyond: mark $w 07 212 17 99999999999999999999",
+        "26 far beyond: refused 26, tally 0 (7 0 0); form 212 kept; relations 17 kept",
     ),
     (
         "all of a tally: mark - 16*$tally+FF 0 0 15",
@@ -164,12 +170,14 @@ const STEPS: [(&str, &str); 7] = [
     ("nobody and no count: accept - 256", "nobody and no count: refused 26, tally"),
 ];
 
-const UNREADABLE: [(&str, &str); 10] = [
+const UNREADABLE: [(&str, &str); 12] = [
     ("half a byte: line 0", "half a byte: unreadable"),
     ("small letters: line 0c", "small letters: unreadable"),
     ("no such call: lines 00", "no such call: unreadable"),
     ("too few: make 00", "too few: unreadable"),
     ("too many: line 00 00", "too many: unreadable"),
+    ("no sheet: room", "no sheet: unreadable"),
+    ("a room beside the sheet: room 00 212", "a room beside the sheet: unreadable"),
     ("no number: accept 03 x", "no number: unreadable"),
     ("three counts: accept 3 1 2", "three counts: unreadable"),
     ("no room: practice 0100 0 1", "no room: unreadable"),

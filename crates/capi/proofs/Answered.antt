@@ -10,7 +10,7 @@ numberOf (refused n) = n
 numberOf (answered x) = 0
 
 -- what stands behind the pointer, where a value stands as a number
-abbrev resultOf : {A : Type 0} → (A → ℕ) → Answer A → ℕ → ℕ
+abbrev pub resultOf : {A : Type 0} → (A → ℕ) → Answer A → ℕ → ℕ
 resultOf f (refused n) b = b
 resultOf f (answered x) b = f x
 
@@ -19,6 +19,12 @@ module _ {R A P : Type 0} (f : A → ℕ) (answerOf : R → Answer A) {x y : R} 
   says-by : (k : ℕ) (v : A) (b : ℕ) → answerOf x ≡ answer k v → (resultOf f (answerOf y) b ≡ resultAfter k (f v) b → P) → (numberOf (answerOf y) ≡ k) × P
   says-by zero v b e rest = rw (← told, e) (refl, rest (rw (← told, e)))
   says-by (suc k) v b e rest = rw (← told, e) (refl, rest (rw (← told, e)))
+
+-- two results of an answer
+pub both-say : {A : Type 0} (f g : A → ℕ) (k : ℕ) (v : A) (b c : ℕ) {r : Answer A} → answer k v ≡ r
+    → (numberOf r ≡ k) × ((resultOf f r b ≡ resultAfter k (f v) b) × (resultOf g r c ≡ resultAfter k (g v) c))
+both-say f g zero v b c e = rw (← e) (refl, (refl, refl))
+both-say f g (suc k) v b c e = rw (← e) (refl, (refl, refl))
 
 -- a number as it is
 pub says : {R P : Type 0} (answerOf : R → Answer ℕ) {x y : R} → x ≡ y → (k v b : ℕ) → answerOf x ≡ answer k v

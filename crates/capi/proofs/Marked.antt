@@ -1,35 +1,25 @@
 -- Marking with the tally as a list of counts: what an answer says of its number, the verdict, the mask and the counts.
-use mathlib.Core.Path.{_≡_, refl, sym, ap, subst, _∙_}
+use mathlib.Core.Path.{_≡_, refl, sym, ap, _∙_}
 use mathlib.Core.List.{List}
-use Prim.Native.Nat.{ℕ, zero, suc, _≤_, _<_}
+use Prim.Native.Nat.{ℕ, _≤_, _<_}
 use native.Mathlib.Omega.{arith}
 use borrow.Author.Tests.{lt-ltb, le-ltb}
 use lib.ListN.{length}
 use Rattle.terms.specs.Sheet.{Verdict, sheetMask, sheetVerdict}
-use Rattle.terms.specs.Answer.{refused, answered, answer}
 use Rattle.terms.specs.Calls.{MarkAnswer, sheetMark, markingRefusal}
 use Rattle.marking.specs.Marking.{SlicesLeft}
 use Rattle.tallies.specs.Counts.{counted}
 use Rattle.tallies.specs.Lists.{marking}
 use Rattle.capi.specs.Result.{resultAfter}
-use Rattle.capi.proofs.Answered.{numberOf}
+use Rattle.capi.proofs.Answered.{numberOf, resultOf, both-say}
 use Rattle.capi.specs.Mark.{verdictNumber, markRefusal, tallyLeft}
 
-abbrev verdictResult : MarkAnswer → ℕ → ℕ
-verdictResult (refused n) b = b
-verdictResult (answered (verdict, mask)) b = verdictNumber verdict
+-- the results of a mark: the verdict as a number, and the mask
+abbrev verdictIn : Verdict × ℕ → ℕ
+verdictIn mark = verdictNumber (mark .0)
 
-abbrev maskResult : MarkAnswer → ℕ → ℕ
-maskResult (refused n) b = b
-maskResult (answered (verdict, mask)) b = mask
-
--- the number, and what stands behind the pointers where the verdict v and the mask m stood
-abbrev Says : MarkAnswer → ℕ → Verdict × ℕ → ℕ → ℕ → Type 0
-Says r k (verdict, mask) v m = (numberOf r ≡ k) × (verdictResult r v ≡ resultAfter k (verdictNumber verdict) v) × (maskResult r m ≡ resultAfter k mask m)
-
-mark-says : (k : ℕ) (mark : Verdict × ℕ) (v m : ℕ) (r : MarkAnswer) → answer k mark ≡ r → Says r k mark v m
-mark-says zero (verdict, mask) v m r e = subst (λ (x : MarkAnswer). Says x zero (verdict, mask) v m) e (refl, refl, refl)
-mark-says (suc k) (verdict, mask) v m r e = subst (λ (x : MarkAnswer). Says x (suc k) (verdict, mask) v m) e (refl, refl, refl)
+abbrev maskIn : Verdict × ℕ → ℕ
+maskIn mark = mark .1
 
 module _ (tally : List ℕ) (c : ℕ) (sheet form relations : List ℕ) (v m : ℕ) where
   abbrev refusal : ℕ
@@ -53,10 +43,10 @@ module _ (tally : List ℕ) (c : ℕ) (sheet form relations : List ℕ) (v m : �
   pub marked : 48 ≤ length tally → (tally′ form′ relations′ : List ℕ) (r e : MarkAnswer) → r ≡ marking tally c sheet (length form) (length relations)
       → tally′ ≡ counted c r tally
       → SlicesLeft (markingRefusal tally c sheet (length form) (length relations)) sheet form′ form relations′ relations
-      → r ≡ e → Marked (numberOf e) tally′ form′ relations′ (verdictResult e v) (maskResult e m)
+      → r ≡ e → Marked (numberOf e) tally′ form′ relations′ (resultOf verdictIn e v) (resultOf maskIn e m)
   unfolding markRefusal tallyLeft
   marked h tally′ form′ relations′ r e answer moved slices is =
       let k = markingRefusal tally c sheet (length form) (length relations) in
-      let says = mark-says k (sheetMark sheet) v m e (sym answer ∙ is) in
+      let says = both-say verdictIn maskIn k (sheetMark sheet) v m (sym answer ∙ is) in
       let left = moved ∙ ap (λ (x : MarkAnswer). counted c x tally) answer in
-      rw (le-ltb (length tally) 48 h) (says .0, (left, (slices, (says .1, says .2))))
+      rw (le-ltb (length tally) 48 h) (says .0, (left, (slices, says .1)))

@@ -1,11 +1,31 @@
 // The calls on a sheet.
+use lending::RoomAnswer;
+use lending::room;
 use making::make_form;
 use terms::answers::LengthAnswer;
 ghost use mathlib.Core.Path.{_≡_};
 ghost use lib.ListN.{length};
-ghost use Rattle.terms.specs.Calls.{makingRefusal};
+ghost use Rattle.terms.specs.Check.{sheetRefusal};
+ghost use Rattle.terms.specs.Calls.{rulesAsked, formAsked, makingRefusal};
 ghost use Rattle.making.specs.Making.{formOf, formLeft, FormMade};
 ghost use Rattle.capi.specs.Result.{resultAfter};
+
+// How many bytes form making and marking ask for, and how many numbers marking asks for.
+#[no_mangle]
+pub extern "C" fn ewf_room(sheet: &[u8], bytes: &mut usize, numbers: &mut usize) -> u8
+    ensures refusal { λ r. ⌜ r ≡ sheetRefusal (now (sheet .entry)) ⌝ }
+    ensures bytes { λ _. ⌜ now (bytes .exit) ≡ resultAfter (sheetRefusal (now (sheet .entry))) (formAsked (now (sheet .entry))) (now (bytes .entry)) ⌝ }
+    ensures numbers { λ _. ⌜ now (numbers .exit) ≡ resultAfter (sheetRefusal (now (sheet .entry))) (rulesAsked (now (sheet .entry))) (now (numbers .entry)) ⌝ }
+{
+    match room(sheet) {
+        RoomAnswer::Refused(n) => n,
+        RoomAnswer::Asked(length, count) => {
+            *bytes = length;
+            *numbers = count;
+            0
+        }
+    }
+}
 
 // The one-hole form of a sheet, and its length.
 #[no_mangle]

@@ -11,7 +11,8 @@ use Rattle.terms.specs.Count.{sizeOf}
 use Rattle.terms.specs.Answer.{Answer, refused, answered, answer, answerOfMask, answerOfLength}
 use Rattle.terms.specs.Calls.{formAsked, countsPerRule, formMask, mostWalked}
 use Rattle.terms.specs.Demand.{FormOfSheet, Demand3}
-use Rattle.terms.proofs.Demand.{making-passes, form-meets}
+use Rattle.terms.proofs.Demand.{form-meets}
+use Rattle.terms.proofs.Sheet.Asked.{just-enough}
 use Rattle.making.specs.Making.{Makes}
 use Rattle.making.proofs.Formed.{wrote, none-refused}
 use Rattle.certificate.specs.Certify.{Slices, Walked, Ran, Follows, CallsMade, Certificate}
@@ -60,7 +61,7 @@ module _ (sheet : List ℕ) (answers : Answers) (form : List ℕ) (lent : Slices
     }
 
   by-answer : (m : Answer ℕ) → answerOfLength (answers .made) ≡ m → Makes sheet m form′ form → Follows sheet m form′ answers lent left → Certificate sheet answers lent form′ left
-  by-answer (refused n) e k f = absurd (none-refused k refl (making-passes sheet passes (length form) room))
+  by-answer (refused n) e k f = absurd (none-refused k refl (just-enough sheet passes .makes (length form) room))
   by-answer (answered n) e k f = certificate n e (wrote k refl .formed) f
 
   pub calls-certify : CallsMade sheet answers form lent form′ left → Certificate sheet answers lent form′ left

@@ -66,11 +66,11 @@ pub record CallsMade (sheet : List ℕ) (answers : Answers) (form : List ℕ) (l
 
 -- What is claimed of them: demand 3.
 
--- the four calls on a sheet that is not refused, with 5 + T + 192 · G form bytes lent (01 Unfolding, 02 R-5)
+-- the four calls on a sheet that is not refused, with 5 + T + 12 · sum form bytes lent (01 Unfolding, 02 R-5, R-6)
 pub record Certificate (sheet : List ℕ) (answers : Answers) (lent : Slices) (form′ : List ℕ) (left : Slices) : Type 0 where
   pub written : ℕ
   pub mask : ℕ
-  -- form making is not refused; the form is valid, derives exactly the sheet's tree, and has at most 16 rules for each right-side node
+  -- form making is not refused; the form is valid, derives exactly the sheet's tree, and has no more rules than the sum, and so at most 16 for each right-side node
   pub made : answerOfLength (answers .made) ≡ answered written
   pub formed : FormOfSheet sheet (take written form′)
   -- with R numbers lent, evaluation is not refused; the mask has bit q exactly where a run on the sheet's tree ends in q at the root
@@ -83,6 +83,6 @@ pub record Certificate (sheet : List ℕ) (answers : Answers) (lent : Slices) (f
   pub walked : countsPerRule * ruleCount (take written form′) ≤ length (lent .counts) → sizeOf (sheetTree sheet) ≤ length (lent .tree)
       → sizeOf (sheetTree sheet) ≤ mostWalked → sizeOf (sheetTree sheet) ≤ length (lent .masks) → answerOfMask (answers .walked) ≡ answered mask
 
--- demand 3, for every byte string that refusals 1 to 16 let through, with 5 + T + 192 · G form bytes lent, whatever the slices held before (01 Unfolding, 02 R-5)
+-- demand 3, for every byte string that refusals 1 to 16 let through, with 5 + T + 12 · sum form bytes lent, whatever the slices held before (01 Unfolding, 02 R-5, R-6)
 abbrev pub Certified : List ℕ → Answers → List ℕ → Slices → List ℕ → Slices → Type 0
 Certified sheet answers form lent form′ left = sheetRefusal sheet ≡ 0 → formAsked sheet ≤ length form → Certificate sheet answers lent form′ left

@@ -1,6 +1,7 @@
 -- Rules bodies and what they are cleaned to (document 02, R-3), over the alphabet of W, as bytes.
 use mathlib.Core.List.{List, [], _∷_}
 use Prim.Native.Nat.{ℕ}
+use Rattle.terms.specs.Form.{formBound}
 use Rattle.terms.specs.Sheet.{rulesBody, writtenRules}
 use Rattle.terms.specs.Examples.{hex, wAlphabet, wRules}
 use Rattle.terms.specs.CallExamples.{CallRow}
@@ -9,6 +10,12 @@ use Rattle.cleaning_terms.specs.Cleaning.{cleaned}
 -- a rules body, and the body of the cleaned rules (02 R-3)
 abbrev pub cleans : List ℕ → List ℕ → CallRow
 cleans body out = record { gives = writtenRules (cleaned wAlphabet (rulesBody body .rules)); says = out }
+
+-- a rules body, and R-6's sum over the rules as written and over the cleaned ones (02 R-6)
+abbrev pub sums : List ℕ → ℕ → ℕ → CallRow
+sums body written clean =
+    let rules = rulesBody body .rules in
+    record { gives = formBound rules ∷ formBound (cleaned wAlphabet rules) ∷ []; says = written ∷ clean ∷ [] }
 
 -- the rules of documents 01 and 02 (02 R-3)
 unfoldable pub cleaningRows : List CallRow
@@ -28,4 +35,8 @@ cleaningRows =
     ∷ cleans (hex 15 0x020181_0103400080_00054140000200) (hex 10 0x010180_010180_00020200)
     -- a dropped argument in a dropped argument
     ∷ cleans (hex 14 0x020180_0009400200400100000200) (hex 7 0x010180_00020200)
+    -- the sum, where nothing is dropped, where all but one argument of a call of rank 4 are, and where one of three is
+    ∷ sums wRules 17 17
+    ∷ sums (hex 10 0x040180_00054000000000) 21 2
+    ∷ sums (hex 12 0x0303018280_00054000000200) 19 13
     ∷ []

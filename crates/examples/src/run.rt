@@ -2,6 +2,7 @@
 use counted_marking::mark::mark;
 use evaluation::evaluate::evaluate;
 use labelling::label::label;
+use lending::room;
 use making::make_form;
 use mark_line::line::line_of;
 use mark_line::show::show_line;
@@ -13,6 +14,7 @@ use row_answers::answers::say_length;
 use row_answers::answers::say_marking;
 use row_answers::answers::say_mask;
 use row_answers::answers::say_reading;
+use row_answers::answers::say_room;
 use row_answers::answers::say_size;
 use row_answers::answers::say_step;
 use row_answers::certify::certify_into;
@@ -33,6 +35,7 @@ use rows::names::LINE;
 use rows::names::MAKE;
 use rows::names::MARK;
 use rows::names::PRACTICE;
+use rows::names::ROOM;
 use rows::names::RULE;
 use rows::names::RULES;
 use rows::names::SIZE;
@@ -127,6 +130,7 @@ fn answer(
     numbers: &mut [u64],
 ) {
     match call {
+        ROOM => say_room(room(a)),
         MAKE => say_length(make_form(a, bytes)),
         MARK => say_marking(mark(a, bytes, numbers, n[6], tally_of(b))),
         CERTIFY => certify_into(a, bytes, numbers, n),

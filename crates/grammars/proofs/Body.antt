@@ -12,9 +12,8 @@ use lib.Seq.{drop-cons, drop-drop, length-take-le}
 use Rattle.terms.specs.Grammar.{ruleAt, nodeCount}
 use Rattle.terms.specs.Sheet.{RulesBody, withRule, readRules, rulesBody}
 use Rattle.grammars.specs.Cursor.{spanAt, ruleIn}
-use Rattle.grammars.specs.Rules.{endsReading}
+use Rattle.grammars.specs.Rules.{bodyCounts}
 use Rattle.grammars.specs.declared.cursor.Span.{Span}
-use Rattle.grammars.specs.declared.rules.Rules.the-variants.{Refused, Read}
 
 -- as many steps as bytes are enough, and more change nothing
 steps : (k m : ℕ) (bs : List ℕ) → length bs ≤ k → length bs ≤ m → readRules k bs ≡ readRules m bs
@@ -160,7 +159,7 @@ module _ (body : List ℕ) (at n m : ℕ) (p : Passed body at n m) where
       }
 
   -- all rules
-  pub all-passed : length body ≤ at → Read (record { rules = n; nodes = m }) ≡ endsReading (rulesBody body)
+  pub all-passed : length body ≤ at → record { rules = n; nodes = m } ≡ bodyCounts (rulesBody body)
   all-passed h =
       let e = none-there body at h in
       let r : length (rulesBody body .rules) ≡ n = p .rules ∙ rw e (omega arith) in
@@ -168,5 +167,5 @@ module _ (body : List ℕ) (at n m : ℕ) (p : Passed body at n m) where
       rw (p .ends, e, r, k)
 
   -- a rule that is cut off
-  pub cut-short : {span : Span} → span ≡ spanAt body at → at < length body → length body < span .end → Refused 5 ≡ endsReading (rulesBody body)
+  pub cut-short : {span : Span} → span ≡ spanAt body at → at < length body → length body < span .end → record { rules = 0; nodes = 0 } ≡ bodyCounts (rulesBody body)
   cut-short e h l = rw (p .ends, cut body at h (rw e at l))

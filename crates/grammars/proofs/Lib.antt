@@ -1,5 +1,5 @@
 pub mod List
 pub mod Body
 pub mod Rule
-pub mod EachRule
 pub mod Reading
+pub mod EachRule

@@ -14,7 +14,7 @@ use Rattle.making.specs.Making.{formOf, formLeft, FormHolds, FormMade, M
 
 pub form-of : (sheet : List ℕ) {form : List ℕ} → FormHolds (alphabetOf sheet) (rulesOf sheet) form → FormOfSheet sheet form
 unfolding sheetTree
-form-of sheet {form} w = record { carried = form-passed (alphabetOf sheet) form (w .accepted) .carried; valid = w .accepted; tree = w .tree; few = w .linear }
+form-of sheet {form} w = record { carried = form-passed (alphabetOf sheet) form (w .accepted) .carried; valid = w .accepted; tree = w .tree; few = w .few; linear = w .linear }
 
 -- the first bytes of a slice that a form was written into are that form
 pub written-first : (form entry : List ℕ) {n : ℕ} {exit : List ℕ} → n ≡ length form → exit ≡ lentAfter 0 form entry → take n exit ≡ form

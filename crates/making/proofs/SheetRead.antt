@@ -3,15 +3,14 @@ use mathlib.Core.Path.{_≡_, refl, sym, ap}
 use mathlib.Core.List.{List}
 use Prim.Native.Nat.{ℕ, zero, suc, _+_, _-_, _≤_, _<_}
 use native.Mathlib.Omega.{arith}
-use borrow.Author.Tests.{lt-ltb, le-ltb}
 use lib.ListN.{length, take, drop, length-drop}
 use lib.Seq.{length-take-le}
 use Rattle.terms.specs.FormBytes.{headLength, formLength, behindHead}
 use Rattle.terms.specs.Sheet.{bodyOffset, body, alphabetOf, rulesBody, rulesOf}
 use Rattle.terms.specs.Check.{sheetRefusal}
 use Rattle.terms.specs.Answer.{Answer, refused, answered, answer}
-use Rattle.terms.specs.Calls.{lentAfter, formAsked, makingRefusal}
-use Rattle.terms.proofs.Form.Bound.{bound-linear}
+use Rattle.terms.specs.Calls.{lentAfter, makingRefusal}
+use Rattle.terms.proofs.Sheet.Asked.{just-enough}
 use Rattle.terms.proofs.Sheet.Bodies.{Joined, joined}
 use Rattle.terms.proofs.Sheet.Grammar.{rules-passed}
 use Rattle.terms.proofs.Sheet.Passed.{SheetPassed, sheet-passed}
@@ -61,12 +60,10 @@ module _ {s : List ℕ} {l : Layout} (r : SheetRead s l) where
 
   -- the refusal of a slice that is too short, and none
   pub too-short : (room : ℕ) → room < formLength (l .terminals) (l .asked) → 17 ≡ makingRefusal s room
-  unfolding makingRefusal
-  too-short room h = rw (r .passed, lt-ltb room (formAsked s) (rw (r .terminals, r .asked) at h))
+  too-short room h = sym (just-enough s (r .passed) .short-making room (rw (r .terminals, r .asked) at h))
 
   pub long-enough : (room : ℕ) → formLength (l .terminals) (l .asked) ≤ room → 0 ≡ makingRefusal s room
-  unfolding makingRefusal
-  long-enough room h = rw (r .passed, le-ltb room (formAsked s) (rw (r .terminals, r .asked) at h))
+  long-enough room h = sym (just-enough s (r .passed) .makes room (rw (r .terminals, r .asked) at h))
 
   -- the parts are a grammar over the alphabet, and the table has room for its form's rules
   pub grammar : (form : List ℕ) → formLength (l .terminals) (l .asked) ≤ length form → {xs ys : List ℕ} → xs ≡ alphabetOf s → ys ≡ body s 1
@@ -81,7 +78,7 @@ module _ {s : List ℕ} {l : Layout} (r : SheetRead s l) where
           proper = p .proper;
           count = r .rules;
           few = p .few-nodes;
-          room = omega (arith, r .terminals, r .asked, bound-linear (alphabetOf s) (rulesBody (body s 1) .rules) (p .proper), length-drop (headLength (length (alphabetOf s))) form);
+          room = omega (arith, r .terminals, r .asked, length-drop (headLength (length (alphabetOf s))) form);
         },
       )
 

@@ -4,11 +4,11 @@ use mathlib.Core.List.{List}
 use Prim.Native.Nat.{ℕ, _≤_}
 use lib.ListN.{length}
 use Rattle.terms.specs.Grammar.{Rule, derived}
-use Rattle.terms.specs.Form.{formBound}
+use Rattle.terms.specs.Form.{formBound, linearBound}
 use Rattle.terms.specs.FormBytes.{ruleCount, formTree, formRefusal}
 use Rattle.terms.specs.Sheet.{alphabetOf, rulesOf}
 use Rattle.terms.specs.Answer.{Answer, answer}
-use Rattle.terms.specs.Calls.{lentAfter, rulesFor, makingRefusal}
+use Rattle.terms.specs.Calls.{lentAfter, makingRefusal}
 use Rattle.skeletons.specs.Form.{madeForm}
 use Rattle.cleaning_terms.specs.Cleaning.{cleaned}
 
@@ -25,7 +25,7 @@ pub record FormHolds (alphabet : List ℕ) (grammar : List Rule) (form : List �
   pub accepted : formRefusal alphabet form ≡ 0
   pub tree : formTree alphabet form ≡ derived alphabet grammar
   pub few : ruleCount form ≤ formBound grammar
-  pub linear : ruleCount form ≤ rulesFor grammar
+  pub linear : ruleCount form ≤ linearBound grammar
 
 -- what holds of the form that is made of a sheet, where nothing is refused of it and of so many bytes lent (01 One-hole form)
 pub record FormMade (sheet : List ℕ) (room : ℕ) : Type 0 where

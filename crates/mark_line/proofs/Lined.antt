@@ -3,15 +3,14 @@ use mathlib.Core.Path.{_≡_, refl, sym, ap, subst, _∙_}
 use mathlib.Core.List.{List}
 use Prim.Native.Nat.{ℕ, zero, suc}
 use native.Mathlib.Omega.{arith}
-use borrow.Author.Tests.{le-ltb}
 use lib.ListN.{length, replicate, length-replicate}
 use Rattle.terms.specs.Sheet.{Verdict, alphabetOf, sheetTree, sheetMask, sheetVerdict}
 use Rattle.terms.specs.Check.{mostTerminals, sheetRefusal}
-use Rattle.terms.specs.FormBytes.{formLength, mostFormRules}
+use Rattle.terms.specs.FormBytes.{formLength}
 use Rattle.terms.specs.Count.{sizeOf, capped}
-use Rattle.terms.specs.Calls.{rulesAsked, formAsked, makingRefusal, sheetMarkingRefusal, MarkAnswer, sheetMark}
+use Rattle.terms.specs.Calls.{mostAsked, makingRefusal, sheetMarkingRefusal, MarkAnswer, sheetMark}
 use Rattle.terms.proofs.Sheet.Passed.{alphabet-passed, sheet-passed}
-use Rattle.sheets.proofs.Asked.{asked-small}
+use Rattle.terms.proofs.Sheet.Asked.{just-enough}
 use Rattle.making.specs.Making.{formOf}
 use Rattle.making.proofs.Formed.{form-of, written-first}
 use Rattle.terms.specs.Answer.{Answer, refused, answered, answer}
@@ -20,15 +19,15 @@ use Rattle.mark_line.specs.Line.{lineOf}
 use Rattle.mark_line.specs.Private.MarkedForm.{MarkedForm}
 
 -- where there is room for the largest sheet, marking refuses what is refused of the sheet alone
-room-enough : (sheet : List ℕ) (room numbers : ℕ) → room ≡ formLength mostTerminals mostFormRules → numbers ≡ mostFormRules → sheetMarkingRefusal sheet room numbers ≡ sheetRefusal sheet
+room-enough : (sheet : List ℕ) (room numbers : ℕ) → room ≡ formLength mostTerminals mostAsked → numbers ≡ mostAsked → sheetMarkingRefusal sheet room numbers ≡ sheetRefusal sheet
 unfolding sheetMarkingRefusal makingRefusal
 room-enough sheet room numbers a b = go (sheetRefusal sheet) refl
   where
     go : (n : ℕ) → sheetRefusal sheet ≡ n → sheetMarkingRefusal sheet room numbers ≡ n
     go zero e =
-        let small = asked-small sheet e in
+        let enough = just-enough sheet e in
         let few = alphabet-passed (alphabetOf sheet) (sheet-passed sheet e .alphabet) .few in
-        rw (e, le-ltb room (formAsked sheet) (omega arith), le-ltb numbers (rulesAsked sheet) (omega arith))
+        enough .marks room numbers (omega (arith, enough .most)) (omega (arith, enough .most))
     go (suc n) e = rw e
 
 -- an answer of marking as a line, with a size
@@ -47,17 +46,17 @@ not-refused (suc k) mark mark′ e = absurd (let z : _≡_ {A = ℕ} 0 1 = cc in
 
 -- the slices as they are lent, with room for the largest sheet
 abbrev form : List ℕ
-form = replicate (formLength mostTerminals mostFormRules) 0
+form = replicate (formLength mostTerminals mostAsked) 0
 
 abbrev relations : List ℕ
-relations = replicate mostFormRules 0
+relations = replicate mostAsked 0
 
 module _ (sheet : List ℕ) {r : MarkAnswer} (given : answer (sheetMarkingRefusal sheet (length form) (length relations)) (sheetMark sheet) ≡ r) where
   abbrev refusal : ℕ
   refusal = sheetMarkingRefusal sheet (length form) (length relations)
 
   only-sheet : refusal ≡ sheetRefusal sheet
-  only-sheet = room-enough sheet (length form) (length relations) (length-replicate {A = ℕ} (formLength mostTerminals mostFormRules) 0) (length-replicate {A = ℕ} mostFormRules 0)
+  only-sheet = room-enough sheet (length form) (length relations) (length-replicate {A = ℕ} (formLength mostTerminals mostAsked) 0) (length-replicate {A = ℕ} mostAsked 0)
 
   pub lined : line r (capped (sizeOf (sheetTree sheet))) ≡ lineOf sheet
   lined =

@@ -10,15 +10,16 @@ use lib.ListN.{length, take, drop}
 use lib.Seq.{getD-take, length-take-le}
 use Rattle.terms.specs.Bytes.{word}
 use Rattle.terms.specs.Sheet.{bodyOffset, alphabetOf, sheetTree}
-use Rattle.terms.specs.FormBytes.{ranksOffset, headLength, formLength, ruleCount, terminalCount, mostFormRules, formTree}
+use Rattle.terms.specs.FormBytes.{ranksOffset, headLength, formLength, ruleCount, terminalCount, formTree}
 use Rattle.terms.specs.Count.{sizeOf, largest, capped, Size, exact, over, sizeAnswer}
-use Rattle.terms.specs.Calls.{countsPerRule, sizeRefusal, unfoldingRefusal}
+use Rattle.terms.specs.Calls.{mostAsked, countsPerRule, sizeRefusal, unfoldingRefusal}
 use Rattle.terms.proofs.Demand.{form-meets}
 use Rattle.terms.proofs.Refusal.{none-before}
 use Rattle.terms.proofs.Form.Bytes.{form-passed}
 use Rattle.terms.proofs.Sheet.Bodies.{joined}
 use Rattle.terms.proofs.Sheet.Passed.{sheet-passed}
 use Rattle.terms.specs.Answer.{Answer, refused, answered, answer}
+use Rattle.terms.proofs.Sheet.Asked.{just-enough}
 use Rattle.mark_line.specs.Private.MarkedForm.{MarkedForm}
 
 -- what size says of a form, with so many numbers lent
@@ -33,7 +34,7 @@ pub record Parts (sheet form : List ℕ) : Type 0 where
   pub alphabet : take (bodyOffset sheet 1 - 12) (drop 12 sheet) ≡ alphabetOf sheet
   pub head : headLength (terminalCount form) ≤ length form
   pub end : formLength (terminalCount form) (ruleCount form) ≤ length form
-  pub call : sizeSaid (alphabetOf sheet) (take (formLength (terminalCount form) (ruleCount form)) form) (countsPerRule * mostFormRules) ≡ answered (sizeAnswer (sizeOf (sheetTree sheet)))
+  pub call : sizeSaid (alphabetOf sheet) (take (formLength (terminalCount form) (ruleCount form)) form) (countsPerRule * mostAsked) ≡ answered (sizeAnswer (sizeOf (sheetTree sheet)))
 
 -- the counts in the head of a form's first bytes
 module _ (n : ℕ) (form : List ℕ) (h : ranksOffset ≤ n) where
@@ -55,7 +56,7 @@ parts sheet form m =
     let head : ranksOffset ≤ n = omega (arith, here .long) in
     let end : formLength (terminalCount form) (ruleCount form) ≡ n = omega (arith, here .long, rules-taken n form head, terminals-taken n form head, all) in
     let demand = form-meets sheet (m .passes) (take n form) (m .formed) in
-    let none = none-before (sizeRefusal (alphabetOf sheet) (take n form) (countsPerRule * mostFormRules)) _ (demand .unfolded (countsPerRule * mostFormRules) (sizeOf (sheetTree sheet)) (omega (arith, here .few)) (omega arith)) .0 in
+    let none = none-before (sizeRefusal (alphabetOf sheet) (take n form) (countsPerRule * mostAsked)) _ (demand .unfolded (countsPerRule * mostAsked) (sizeOf (sheetTree sheet)) (omega (arith, m .formed .few, just-enough sheet (m .passes) .most)) (omega arith)) .0 in
     record {
       long = passed .long;
       first = bodies .after-contents;
@@ -84,7 +85,7 @@ size-number : (s : ℕ) (r : Answer Size) → answered (sizeAnswer s) ≡ r → 
 size-number s r e = subst (λ (x : Answer Size). numberOf x ≡ capped s) e (capped-number s)
 
 -- the same for what the call was given
-pub size-is : (sheet form : List ℕ) → Parts sheet form → (rules end numbers : ℕ) (r : Answer Size) {e : Answer Size} → rules ≡ bodyOffset sheet 1 → end ≡ formLength (terminalCount form) (ruleCount form) → numbers ≡ countsPerRule * mostFormRules
+pub size-is : (sheet form : List ℕ) → Parts sheet form → (rules end numbers : ℕ) (r : Answer Size) {e : Answer Size} → rules ≡ bodyOffset sheet 1 → end ≡ formLength (terminalCount form) (ruleCount form) → numbers ≡ countsPerRule * mostAsked
     → r ≡ sizeSaid (take (rules - 12) (drop 12 sheet)) (take end form) numbers → r ≡ e → numberOf e ≡ capped (sizeOf (sheetTree sheet))
 size-is sheet form p rules end numbers r {e} here there many call is =
     let same = rw (here, there, many, p .alphabet, p .call) at call in

@@ -6,7 +6,7 @@ use counting::counts::COUNTS;
 use form_bytes::layout;
 use marking::answer::Mark;
 use marking::mark::mark_sheet;
-use sheets::sheet::MOST_ASKED;
+use sheets::limits::MOST_ASKED;
 use sizing::answer::Size;
 use sizing::size::size;
 ghost use mathlib.Core.Path.{_≡_};

@@ -3,16 +3,16 @@ use mathlib.Core.Path.{_≡_, refl, sym, ap, _∙_}
 use mathlib.Core.List.{List}
 use Prim.Native.Nat.{ℕ, zero, suc, _-_, _≤_, _<_}
 use native.Mathlib.Omega.{arith}
-use borrow.Author.Tests.{lt-ltb, le-ltb}
 use lib.ListN.{length, take, drop}
 use Rattle.terms.specs.Tree.{preorder}
 use Rattle.terms.specs.Sheet.{alphabetOf, rulesOf, automatonOf, finals, Verdict, sheetTree, sheetMask, sheetVerdict}
 use Rattle.terms.specs.FormBytes.{formLength}
 use Rattle.terms.specs.Answer.{refused, answered, answer}
-use Rattle.terms.specs.Calls.{lentAfter, rulesAsked, sheetMarkingRefusal, MarkAnswer, sheetMark, makingRefusal, evaluationRefusal, relationsOf, formMask, walkMask}
+use Rattle.terms.specs.Calls.{lentAfter, sheetMarkingRefusal, MarkAnswer, sheetMark, makingRefusal, evaluationRefusal, relationsOf, formMask, walkMask}
 use Rattle.terms.specs.Demand.{FormOfSheet, Demand3}
 use Rattle.terms.proofs.Refusal.{is-first}
 use Rattle.terms.proofs.Demand.{walk-answers, form-meets}
+use Rattle.terms.proofs.Sheet.Asked.{just-enough}
 use Rattle.terms.proofs.Sheet.Automaton.{automaton-passed}
 use Rattle.terms.proofs.Sheet.Bodies.{joined}
 use Rattle.terms.proofs.Sheet.Passed.{sheet-passed}
@@ -21,7 +21,6 @@ use Rattle.making.specs.Making.{formOf}
 use Rattle.making.specs.Private.Read.{FormWritten}
 use Rattle.making.proofs.Formed.{form-of, written-first}
 use Rattle.sheets.proofs.Read.{SheetRead}
-use Rattle.making.proofs.SheetRead.{too-short, long-enough}
 use Rattle.marking.specs.Marking.{SlicesLeft}
 use Rattle.marking.specs.Private.Verdict.{verdictOn}
 
@@ -51,15 +50,13 @@ module _ (s : List ℕ) (room numbers : ℕ) where
 
 module _ {s : List ℕ} {l : Layout} (read : SheetRead s l) (room numbers : ℕ) where
   pub form-short : room < formLength (l .terminals) (l .asked) → 17 ≡ sheetMarkingRefusal s room numbers
-  form-short h = not-made s room numbers (too-short read room h) (λ e. omega arith)
+  form-short h = sym (just-enough s (read .passed) .short-marking room numbers (rw (read .terminals, read .asked) at h))
 
   pub numbers-short : formLength (l .terminals) (l .asked) ≤ room → numbers < l .asked → 19 ≡ sheetMarkingRefusal s room numbers
-  unfolding sheetMarkingRefusal
-  numbers-short h k = rw (sym (long-enough read room h), lt-ltb numbers (rulesAsked s) (rw (read .asked) at k))
+  numbers-short h k = sym (just-enough s (read .passed) .few-numbers room numbers (rw (read .terminals, read .asked) at h) (rw (read .asked) at k))
 
   pub none-short : formLength (l .terminals) (l .asked) ≤ room → l .asked ≤ numbers → 0 ≡ sheetMarkingRefusal s room numbers
-  unfolding sheetMarkingRefusal
-  none-short h k = rw (sym (long-enough read room h), le-ltb numbers (rulesAsked s) (rw (read .asked) at k))
+  none-short h k = sym (just-enough s (read .passed) .marks room numbers (rw (read .terminals, read .asked) at h) (rw (read .asked) at k))
 
 -- A sheet that was read.
 

@@ -12,7 +12,8 @@ use Rattle.terms.specs.FormBytes.{ruleCount, formTree}
 use Rattle.terms.specs.Answer.{Answer, refused, answered, answerOfLength}
 use Rattle.terms.specs.Calls.{formAsked, countsPerRule, unfoldingRefusal}
 use Rattle.terms.specs.Demand.{FormOfSheet, Demand3}
-use Rattle.terms.proofs.Demand.{making-passes, form-meets}
+use Rattle.terms.proofs.Demand.{form-meets}
+use Rattle.terms.proofs.Sheet.Asked.{just-enough}
 use Rattle.making.specs.Making.{Makes}
 use Rattle.making.proofs.Formed.{wrote, none-refused}
 use Rattle.unfolding.specs.Unfolding.{Unfolded}
@@ -54,7 +55,7 @@ module _ (alphabet sheet tree : List ℕ) (is : SheetOf sheet alphabet tree) (r 
 
   by-answer : (m : Answer ℕ) → answerOfLength (r .made) ≡ m → Makes sheet m (left .form) (lent .form)
       → UnfoldedFrom alphabet m (left .form) (answerOfLength (r .unfolded)) (left .counts) (lent .counts) (left .tree) (lent .tree) → TreeBack tree r lent left
-  by-answer (refused n) e k u = absurd (none-refused k refl (making-passes sheet (is .passes) (length (lent .form)) room))
+  by-answer (refused n) e k u = absurd (none-refused k refl (just-enough sheet (is .passes) .makes (length (lent .form)) room))
   by-answer (answered n) e k u =
       let formed = wrote k refl .formed in
       record { bytes = n; made = e; back = λ h k. (nodes-written n formed u h k, tree-written n formed u h k) }

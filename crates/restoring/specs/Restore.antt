@@ -48,7 +48,7 @@ pub record TreeBack (tree : List ℕ) (r : Restoring) (lent left : RestoringSlic
   pub back : countsPerRule * ruleCount (take bytes (left .form)) ≤ length (lent .counts) → length tree ≤ length (lent .tree)
       → (answerOfLength (r .unfolded) ≡ answered (length tree)) × (take (length tree) (left .tree) ≡ tree)
 
--- the last sentence of demand 2, and of R-2, for every sheet that is not refused where it is written, with 5 + T + 192 · G form bytes lent, whatever the slices held
--- before (01 demand 2; 02 R-2)
+-- the last sentence of demand 2, and of R-2, for every sheet that is not refused where it is written, with 5 + T + 12 · sum form bytes lent, whatever the slices held
+-- before (01 demand 2; 02 R-2, R-6)
 abbrev pub Restored : ℕ → List ℕ → List ℕ → Restoring → RestoringSlices → RestoringSlices → Type 0
 Restored n sheet tree r lent left = n ≡ 0 → formAsked sheet ≤ length (lent .form) → TreeBack tree r lent left

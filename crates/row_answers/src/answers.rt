@@ -3,6 +3,7 @@ use crate::tally::say_tally;
 use counted_marking::answer::Marking;
 use form_bytes::rule::FormRule;
 use labelling::answer::Label;
+use lending::RoomAnswer;
 use marking::answer::Mark;
 use opening::RuleReading;
 use rows::show::next_answer;
@@ -10,6 +11,7 @@ use rows::show::print_number;
 use rows::show::say_refused;
 use rows::show::say_with;
 use rows::words::ACCEPTED;
+use rows::words::ASKED;
 use rows::words::DECLINED;
 use rows::words::MASK;
 use rows::words::OVER;
@@ -22,6 +24,17 @@ use sizing::answer::Size;
 use tallies::tally::Step;
 use terms::answers::LengthAnswer;
 use terms::answers::MaskAnswer;
+
+// The bytes that are asked for, and then the numbers.
+pub fn say_room(room: RoomAnswer) {
+    match room {
+        RoomAnswer::Refused(n) => say_refused(n),
+        RoomAnswer::Asked(bytes, numbers) => {
+            say_with(ASKED, bytes as u64);
+            print_number(numbers as u64);
+        }
+    }
+}
 
 pub fn say_length(written: LengthAnswer) {
     match written {

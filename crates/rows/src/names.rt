@@ -6,6 +6,8 @@ pub const MAKE: usize = 0x6D61_6B65;
 
 pub const MARK: usize = 0x6D61_726B;
 
+pub const ROOM: usize = 0x726F_6F6D;
+
 pub const CERTIFY: usize = 0x63_6572_7469_6679;
 
 pub const ACCEPT: usize = 0x6163_6365_7074;
@@ -38,7 +40,7 @@ pub const NONE: usize = 0;
 // The first field of a row that is no byte string. The call is field 1.
 pub fn first_number(call: usize) -> usize {
     match call {
-        LINE | MAKE | CERTIFY | ACCEPT | DECLINE | TURN_AWAY | PRACTICE => 3,
+        LINE | ROOM | MAKE | CERTIFY | ACCEPT | DECLINE | TURN_AWAY | PRACTICE => 3,
         MARK | RULE | RULES | SIZE | LABEL | UNFOLD => 4,
         EVALUATE | WALK | WRAP => 5,
         _ => 2,
@@ -48,7 +50,7 @@ pub fn first_number(call: usize) -> usize {
 // How many fields a row has.
 pub fn fields_of(call: usize) -> usize {
     match call {
-        LINE => 3,
+        LINE | ROOM => 3,
         MAKE | RULES | ACCEPT | DECLINE | TURN_AWAY => 4,
         RULE | SIZE => 5,
         EVALUATE | LABEL | UNFOLD | WALK | WRAP | PRACTICE => 6,

@@ -37,11 +37,13 @@ pub const MASKS: usize = 16;
 
 pub const SHEET: usize = 17;
 
+pub const ASKED: usize = 18;
+
 // No word.
-pub const NOTHING: usize = 18;
+pub const NOTHING: usize = 19;
 
 // How many words there are, and how many bytes each takes.
-const COUNT: usize = 19;
+const COUNT: usize = 20;
 
 const WIDTH: usize = 11;
 
@@ -66,6 +68,7 @@ fn words() -> [u8; WIDTH * COUNT] {
     4tree      \
     5masks     \
     5sheet     \
+    5asked     \
     0          "
 }
 

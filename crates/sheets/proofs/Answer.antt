@@ -2,21 +2,19 @@
 use mathlib.Core.Path.{_≡_, ap}
 use mathlib.Core.Bool.{true, false}
 use mathlib.Core.List.{List}
-use Prim.Native.Nat.{ℕ, zero, suc, _*_}
+use Prim.Native.Nat.{ℕ, zero, suc}
 use native.Mathlib.Omega.{arith}
 use lib.ListN.{length}
-use Rattle.terms.specs.Grammar.{nodeCount}
 use Rattle.terms.specs.Refusal.{outside, orElse}
-use Rattle.terms.specs.Sheet.{rulesBody, rulesOf, bodyOffset, bodyLength, body}
+use Rattle.terms.specs.Sheet.{rulesBody, alphabetOf, rulesOf, bodyOffset, bodyLength, body}
 use Rattle.terms.specs.Check.{alphabetRefusal, rulesRefusal, automatonRefusal, joins, sheetRefusal}
 use Rattle.terms.specs.Answer.{Answer, refused, answered, answer}
-use Rattle.terms.specs.Calls.{rulesForNode, rulesAsked}
+use Rattle.terms.specs.Calls.{rulesAsked}
 use Rattle.terms.proofs.Test.{of-true}
 use Rattle.terms.proofs.Sheet.Bodies.{joined}
 use Rattle.grammars.specs.Rules.{reading}
 use Rattle.sheets.specs.Private.Bodies.{bodiesReading}
 use Rattle.sheets.specs.Sheet.{layoutOf, sheetReading}
-use Rattle.grammars.specs.declared.rules.Counts.{Counts}
 use Rattle.grammars.specs.declared.rules.Rules as rules
 use Rattle.sheets.specs.declared.sheet.Layout.{Layout}
 
@@ -46,22 +44,18 @@ module _ (s : List ℕ) where
           go zero e = absurd (let z : _≡_ {A = ℕ} 0 1 = cc in omega arith)
           go (suc n) e = ap refused (cc)
 
-      -- bodies that are read: nothing is refused of the sheet, and the counts are those of its rules
-      pub record BodiesRead (counts : Counts) : Type 0 where
-        pub passes : sheetRefusal s ≡ 0
-        pub rules : counts .rules ≡ length (rulesOf s)
-        pub asked : rulesForNode * counts .nodes ≡ rulesAsked s
-
-      pub bodies-read : (counts : Counts) → rules.the-variants.Read counts ≡ bodiesReading (body s 0) (body s 1) (body s 2) → BodiesRead counts
+      -- bodies that are read: nothing is refused of the sheet
+      pub bodies-read : {count asked t a : ℕ} → rules.the-variants.Read count asked ≡ bodiesReading (body s 0) (body s 1) (body s 2) → t ≡ bodyLength s 0 → a ≡ bodyOffset s 2
+          → answered (record { terminals = t; rules = count; asked = asked; automaton = a }) ≡ sheetReading s
       unfolding rulesOf
-      bodies-read counts e = go of-bodies same e
+      bodies-read {count} {asked} {t} {a} e et ea = rw (same, et, joined s (of-true (joins s) h) .terminals, ea) (go of-bodies e)
         where
-          go : (n : ℕ) → sheetRefusal s ≡ n → rules.the-variants.Read counts ≡ reading n (rulesBody (body s 1) .rules) → BodiesRead counts
-          go zero t e =
-              let n : counts .nodes ≡ nodeCount (rulesBody (body s 1) .rules) = cc in
-              record { passes = t; rules = cc; asked = ap (λ (k : ℕ). rulesForNode * k) n }
-          go (suc n) t e = absurd (let z : _≡_ {A = ℕ} 0 1 = cc in omega arith)
+          layout : ℕ → ℕ → Layout
+          layout n k = record { terminals = length (alphabetOf s); rules = n; asked = k; automaton = bodyOffset s 2 }
 
-      pub sheet-read : (counts : Counts) (t a : ℕ) → BodiesRead counts → t ≡ bodyLength s 0 → a ≡ bodyOffset s 2
-          → answered (record { terminals = t; rules = counts .rules; asked = rulesForNode * counts .nodes; automaton = a }) ≡ sheetReading s
-      sheet-read counts t a r et ea = rw (r .passes, et, joined s (of-true (joins s) h) .terminals, ea, r .rules, r .asked)
+          go : (n : ℕ) → rules.the-variants.Read count asked ≡ reading n (rulesBody (body s 1) .rules) → _≡_ {A = Answer Layout} (answered (layout count asked)) (answer n (layoutOf s))
+          go zero e =
+              let read : count ≡ length (rulesOf s) = cc in
+              let sum : asked ≡ rulesAsked s = cc in
+              rw (read, sum)
+          go (suc n) e = absurd (let z : _≡_ {A = ℕ} 0 1 = cc in omega arith)

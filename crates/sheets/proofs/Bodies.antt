@@ -12,7 +12,6 @@ use Rattle.terms.proofs.Test.{of-true}
 use Rattle.terms.proofs.Sheet.Bodies.{joined}
 use Rattle.terms.proofs.Refusal.{or-none}
 use Rattle.grammars.specs.Rules.{reading, rulesReading}
-use Rattle.grammars.specs.declared.rules.Counts.{Counts}
 use Rattle.grammars.specs.declared.rules.Rules.the-variants.{Refused, Read}
 use Rattle.grammars.proofs.Reading.{refusal-read}
 use Rattle.sheets.specs.Private.Bodies.{bodiesReading}
@@ -35,18 +34,18 @@ module _ (alphabet rules automaton : List ℕ) where
         go zero f = absurd (let z : _≡_ {A = ℕ} 0 1 = cc in omega arith)
         go (suc n) f = f
 
-    module _ {counts : Counts} (f : Read counts ≡ rulesReading alphabet rules) where
-      none : (rulesRefusal alphabet rules ≡ 0) × (Read counts ≡ reading 0 (rulesBody rules .rules))
+    module _ {count asked : ℕ} (f : Read count asked ≡ rulesReading alphabet rules) where
+      none : (rulesRefusal alphabet rules ≡ 0) × (Read count asked ≡ reading 0 (rulesBody rules .rules))
       none = go (rulesRefusal alphabet rules) f
         where
-          go : (n : ℕ) → Read counts ≡ reading n (rulesBody rules .rules) → (n ≡ 0) × (Read counts ≡ reading 0 (rulesBody rules .rules))
+          go : (n : ℕ) → Read count asked ≡ reading n (rulesBody rules .rules) → (n ≡ 0) × (Read count asked ≡ reading 0 (rulesBody rules .rules))
           go zero f = (refl, f)
           go (suc n) f = absurd (let z : _≡_ {A = ℕ} 0 1 = cc in omega arith)
 
       pub automaton-first : {a : ℕ} → a ≡ automatonRefusal alphabet automaton → (a ≡ 0 → ⊥) → Refused a ≡ bodiesReading alphabet rules automaton
       automaton-first {a} g h = rw (← e, z, none .0, or-none (automatonRefusal alphabet automaton), ← g) (refusal-read a (rulesBody rules .rules) h)
 
-      pub all-pass : {a : ℕ} → a ≡ automatonRefusal alphabet automaton → a ≡ 0 → Read counts ≡ bodiesReading alphabet rules automaton
+      pub all-pass : {a : ℕ} → a ≡ automatonRefusal alphabet automaton → a ≡ 0 → Read count asked ≡ bodiesReading alphabet rules automaton
       all-pass g h = rw (← e, z, none .0, ← g, h) (none .1)
 
 -- From the parts of a sheet to its reading.

@@ -1,4 +1,3 @@
 pub mod Bodies
 pub mod Answer
-pub mod Asked
 pub mod Read

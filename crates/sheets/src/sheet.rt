@@ -4,7 +4,6 @@ use automata::check::check_automaton;
 use checks::alphabet::check_alphabet;
 use checks::bytes::word;
 use checks::limits::CONTENTS;
-use checks::limits::MOST_NODES;
 use grammars::rules::Rules;
 use grammars::rules::read_rules;
 ghost use mathlib.Core.Path.{_≡_};
@@ -15,12 +14,6 @@ ghost use Rattle.terms.specs.Sheet.{body};
 ghost use Rattle.terms.specs.Check.{joins};
 ghost use Rattle.sheets.specs.Sheet.{answerOfReading, sheetReading};
 ghost use Rattle.sheets.specs.Private.Bodies.{bodiesReading};
-
-// How many rules of a form a right-side node may take.
-const RULES_FOR_NODE: usize = 16;
-
-// The most rules that a form of a sheet may take.
-pub const MOST_ASKED: usize = RULES_FOR_NODE * MOST_NODES;
 
 // Where the bodies of a sheet lie, and how much they hold: the alphabet follows the contents with a byte for each
 // terminal, the rules follow the alphabet, and the automaton follows the rules to the end. A form of the sheet may take
@@ -67,12 +60,12 @@ fn read_bodies(alphabet: &[u8], rules: &[u8], automaton: &[u8]) -> Rules
     }
     match read_rules(alphabet, rules) {
         Rules::Refused(n) => Rules::Refused(n),
-        Rules::Read(counts) => {
+        Rules::Read(count, asked) => {
             let refused = check_automaton(alphabet, automaton);
             if refused != 0 {
                 return Rules::Refused(refused);
             }
-            Rules::Read(counts)
+            Rules::Read(count, asked)
         }
     }
 }
@@ -103,10 +96,10 @@ pub fn read_sheet(sheet: &[u8]) -> Reading
     }
     match read_joined(sheet) {
         Rules::Refused(n) => Reading::Refused(n),
-        Rules::Read(counts) => Reading::Sheet(Layout {
+        Rules::Read(rules, asked) => Reading::Sheet(Layout {
             terminals: word(sheet, 2),
-            rules: counts.rules,
-            asked: RULES_FOR_NODE * counts.nodes,
+            rules,
+            asked,
             automaton: word(sheet, 8),
         }),
     }

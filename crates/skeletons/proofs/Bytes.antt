@@ -5,10 +5,9 @@ use Prim.Native.Nat.{ℕ, _-_, _≤_}
 use native.Mathlib.Omega.{arith}
 use lib.ListN.{length}
 use Rattle.terms.specs.Grammar.{Rule, nodeCount, derived, Proper}
-use Rattle.terms.specs.Form.{treeIn, formBound}
+use Rattle.terms.specs.Form.{treeIn, formBound, linearBound}
 use Rattle.terms.specs.Check.{alphabetRefusal}
 use Rattle.terms.specs.FormBytes.{ruleCount, formTree, formRefusal, formBytes}
-use Rattle.terms.specs.Calls.{rulesFor}
 use Rattle.terms.proofs.Form.Written.{counted, written-form}
 use Rattle.skeletons.specs.Skeleton.{Skeleton, shut}
 use Rattle.skeletons.specs.Make.{skeletonOf}
@@ -21,7 +20,7 @@ pub record MadeBytes (alphabet : List ℕ) (grammar : List Rule) : Type 0 where
   pub accepted : formRefusal alphabet (madeForm alphabet grammar) ≡ 0
   pub tree : formTree alphabet (madeForm alphabet grammar) ≡ derived alphabet grammar
   pub few : ruleCount (madeForm alphabet grammar) ≤ formBound grammar
-  pub linear : ruleCount (madeForm alphabet grammar) ≤ rulesFor grammar
+  pub linear : ruleCount (madeForm alphabet grammar) ≤ linearBound grammar
 
 -- the start is the rule that the start rule's skeleton is
 pub made-from : (alphabet : List ℕ) (grammar : List Rule) (start : ℕ) → skeletonOf (scanned alphabet grammar (length grammar)) (length grammar - 1) ≡ shut start

@@ -6,8 +6,7 @@ use native.Mathlib.Omega.{arith}
 use lib.ListN.{length}
 use Rattle.terms.specs.Tree.{Tree, preorder}
 use Rattle.terms.specs.Grammar.{Name, terminal, nonterminal, parameter, nothing, Rule, ruleAt, ruleRank, rightSide, isParameter, sumOver, derived, Proper}
-use Rattle.terms.specs.Form.{closed, share, formBound}
-use Rattle.terms.specs.Calls.{rulesFor}
+use Rattle.terms.specs.Form.{closed, share, formBound, linearBound}
 use Rattle.skeletons.specs.FormOf.{FormOf}
 use Rattle.terms.specs.Form.{Rule as FormRule}
 use Rattle.terms.proofs.Form.Bound.{bound-linear}
@@ -67,5 +66,5 @@ module _ (alphabet : List ℕ) (rules : List Rule) (p : Proper alphabet rules) w
   scanned-form = rw (scanned-right alphabet rules p (length rules) (omega arith)) made-form
 
 pub form-linear : (alphabet : List ℕ) (grammar : List Rule) → Proper alphabet grammar
-    → {rules : List FormRule} {start : ℕ} → FormOf alphabet grammar rules start → length rules ≤ rulesFor grammar
+    → {rules : List FormRule} {start : ℕ} → FormOf alphabet grammar rules start → length rules ≤ linearBound grammar
 form-linear alphabet grammar p f = omega (arith, f .few, bound-linear alphabet grammar p)

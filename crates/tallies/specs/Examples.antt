@@ -12,13 +12,13 @@ use Rattle.tallies.specs.Turn.{Turn}
 use Rattle.tallies.specs.Counts.{step}
 use Rattle.tallies.specs.Lists.{Call}
 
--- a call of candidate c, with 176 numbers lent (02 R-1)
+-- a call of candidate c, with 17 numbers lent (02 R-1)
 abbrev pub called : ℕ → List ℕ → ℕ → Turn Call
-called c sheet room = record { candidate = c; what = record { sheet = sheet; room = room; numbers = 176 } }
+called c sheet room = record { candidate = c; what = record { sheet = sheet; room = room; numbers = 17 } }
 
 -- W, W with state 1 final, nothing, W for a candidate that is none, and W with a byte fewer for its form than marking asks for (02 R-1)
 unfoldable pub listed : List (Turn Call)
-listed = called 0 W 2120 ∷ called 1 (wWith 33 0x02) 2120 ∷ called 0 [] 2120 ∷ called 16 W 2120 ∷ called 1 W 2119 ∷ []
+listed = called 0 W 212 ∷ called 1 (wWith 33 0x02) 212 ∷ called 0 [] 212 ∷ called 16 W 212 ∷ called 1 W 211 ∷ []
 
 -- what they are answered (02 R-1)
 abbrev pub listedAnswers : List MarkAnswer

@@ -13,7 +13,7 @@ use Rattle.terms.specs.Sheet.{alphabetOf, automatonOf, rulesOf, transiti
 use Rattle.terms.specs.Check.{isOne, isTree, treeRefusal, sheetRefusal}
 use Rattle.terms.specs.FormBytes.{ruleCount}
 use Rattle.terms.specs.Count.{sizeOf}
-use Rattle.terms.specs.Calls.{formAsked, makingRefusal, openingRefusal, evaluationRefusal, formMask, countsPerRule, sizeRefusal, unfoldingRefusal, mostWalked, walkRefusal, walkMask}
+use Rattle.terms.specs.Calls.{openingRefusal, evaluationRefusal, formMask, countsPerRule, sizeRefusal, unfoldingRefusal, mostWalked, walkRefusal, walkMask}
 use Rattle.terms.specs.Demand.{FormOfSheet, MaskOfRuns, Demand3}
 use Rattle.terms.proofs.Test.{is-true, both}
 use Rattle.terms.proofs.Tree.Whole.{wholes-preorder, tree-of-preorder}
@@ -21,6 +21,7 @@ use Rattle.terms.proofs.Grammar.Over.{over-known}
 use Rattle.terms.proofs.Grammar.Derivation.{derived-over, derived-ranked}
 use Rattle.terms.proofs.Automaton.Mask.{mask-iff}
 use Rattle.terms.proofs.Sheet.Passed.{SheetPassed, sheet-passed, sheet-proper, sheet-small}
+use Rattle.terms.proofs.Sheet.Asked.{just-enough}
 
 module _ (sheet : List ℕ) (passes : sheetRefusal sheet ≡ 0) where
   abbrev alphabet : List ℕ
@@ -59,10 +60,6 @@ module _ (sheet : List ℕ) (passes : sheetRefusal sheet ≡ 0) where
   unfolding walkMask sheetTree
   walk-answers = ap (mask (transitionsOf alphabet automaton)) (tree-of-preorder (terminalRank alphabet) tree (derived-ranked alphabet (rulesOf sheet) (sheet-proper sheet passes)))
 
-  pub making-passes : (room : ℕ) → formAsked sheet ≤ room → makingRefusal sheet room ≡ 0
-  unfolding makingRefusal
-  making-passes room h = rw (passes, le-ltb room (formAsked sheet) h)
-
   module _ (form : List ℕ) (formed : FormOfSheet sheet form) where
     mask-is : formMask alphabet automaton form ≡ mask (transitionsOf alphabet automaton) tree
     unfolding formMask
@@ -82,7 +79,7 @@ module _ (sheet : List ℕ) (passes : sheetRefusal sheet ≡ 0) where
 
     pub form-meets : Demand3 sheet form
     form-meets = record {
-      made = making-passes;
+      made = just-enough sheet passes .makes;
       formed = formed;
       evaluated = evaluation-passes;
       mask = mask-of-runs;

@@ -6,3 +6,4 @@ pub mod Write
 pub mod Wrap
 pub mod Bodies
 pub mod Rules
+pub mod Asked

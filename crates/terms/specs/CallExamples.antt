@@ -5,9 +5,10 @@ use lib.ListN.{take, set, replicate}
 use Rattle.terms.specs.Tree.{preorder}
 use Rattle.terms.specs.Form.{whole}
 use Rattle.terms.specs.Relation.{composeBits, applyBits}
-use Rattle.terms.specs.Sheet.{nodesOf, sheetMask, wrapped}
+use Rattle.terms.specs.Sheet.{nodesOf, sheetMask, sheetOf, wrapped}
+use Rattle.terms.specs.Check.{sheetRefusal}
 use Rattle.terms.specs.FormBytes.{headLength, ruleLength, formTree, formBytes}
-use Rattle.terms.specs.Calls.{makingRefusal, sheetMarkingRefusal, markingRefusal, openingRefusal, readingRefusal, evaluationRefusal, relationsOf, formMask, sizeRefusal, unfoldingRefusal, labelRefusal, labelAt, countsOf, walkRefusal, walkMask, walkMasks, wrapRefusal}
+use Rattle.terms.specs.Calls.{rulesAsked, formAsked, makingRefusal, sheetMarkingRefusal, markingRefusal, openingRefusal, readingRefusal, evaluationRefusal, relationsOf, formMask, sizeRefusal, unfoldingRefusal, labelRefusal, labelAt, countsOf, walkRefusal, walkMask, walkMasks, wrapRefusal}
 use Rattle.terms.specs.Examples.{hex, times, W, wWith, wAlphabet, wAutomaton, K7, K8}
 
 -- what the definitions give for a call, and what must come out (01 Sheets for the desk)
@@ -193,6 +194,38 @@ composing =
     ∷ is (applyBits 0xFFFF_FFFF_FFFF_FFFF 0) 0
     ∷ []
 
+-- a sheet of these rules, over W's alphabet and with its automaton (02 R-6)
+abbrev pub ruled : List ℕ → List ℕ
+ruled rules = sheetOf wAlphabet rules wAutomaton
+
+-- a sheet that passes, and for which so many bytes and numbers are asked (02 R-6)
+abbrev pub asks : List ℕ → ℕ → ℕ → CallRow
+asks s bytes numbers = record { gives = sheetRefusal s ∷ formAsked s ∷ rulesAsked s ∷ []; says = 0 ∷ bytes ∷ numbers ∷ [] }
+
+-- the sum over a sheet as written, and what is asked for by it (02 R-6)
+unfoldable pub rooms : List CallRow
+rooms =
+    asks W 212 17
+    ∷ asks K7 308 25
+    -- a; f of two calls of rank 0, which add nothing
+    ∷ asks (ruled (hex 3 0x000100)) 32 2
+    ∷ asks (ruled (hex 8 0x000100_0003014040)) 56 4
+    -- a call of rank 4 counts 13, though three arguments are dropped, and they count; one of rank 2 counts 5, one of rank 1 counts 1
+    ∷ asks (ruled (hex 10 0x040180_00054000000000)) 260 21
+    ∷ asks (ruled (hex 9 0x020180_000440000200)) 140 11
+    ∷ asks (ruled (hex 7 0x010180_00024000)) 44 3
+    -- a rule that is never called
+    ∷ asks (ruled (hex 7 0x00020200_000100)) 80 6
+    -- 128 nodes, 31 of them calls of rank 4
+    ∷ asks (ruled (hex 7 0x040100_007F0202 ++ (replicate 31 0x40 ++ replicate 94 0x00))) 7172 597
+    -- 17 for a byte fewer, before 19 for a number fewer
+    ∷ is (makingRefusal (ruled (hex 3 0x000100)) 31) 17
+    ∷ is (makingRefusal (ruled (hex 3 0x000100)) 32) 0
+    ∷ is (sheetMarkingRefusal (ruled (hex 3 0x000100)) 31 1) 17
+    ∷ is (sheetMarkingRefusal (ruled (hex 3 0x000100)) 32 1) 19
+    ∷ is (sheetMarkingRefusal (ruled (hex 3 0x000100)) 32 2) 0
+    ∷ []
+
 -- refusals 17 to 26, the order of each call's refusals, and what the calls on a form answer (01 Refusals, 02 R-1)
 unfoldable pub calls : List CallRow
 calls =
@@ -203,32 +236,32 @@ calls =
     ∷ is (sheetMask (set K8 48 0x01)) 1
     ∷ is (sheetMask (set K8 49 0x01)) 0
     -- form making
-    ∷ is (makingRefusal W 2119) 17
-    ∷ is (makingRefusal W 2120) 0
+    ∷ is (makingRefusal W 211) 17
+    ∷ is (makingRefusal W 212) 0
     ∷ is (makingRefusal (wWith 34 0x03) 0) 16
     -- marking: 1 to 16, 17, 19
-    ∷ is (sheetMarkingRefusal W 2120 176) 0
-    ∷ is (sheetMarkingRefusal W 2119 175) 17
-    ∷ is (sheetMarkingRefusal W 2120 175) 19
+    ∷ is (sheetMarkingRefusal W 212 17) 0
+    ∷ is (sheetMarkingRefusal W 211 16) 17
+    ∷ is (sheetMarkingRefusal W 212 16) 19
     -- marking for a candidate: 26, 25, 1 to 16, 17, 19
-    ∷ is (markingRefusal (counting 2 0 0) 2 W 2120 176) 0
-    ∷ is (markingRefusal (counting 2 0 0) 2 W 2120 175) 19
-    ∷ is (markingRefusal (counting 2 0 0) 2 W 2119 175) 17
+    ∷ is (markingRefusal (counting 2 0 0) 2 W 212 17) 0
+    ∷ is (markingRefusal (counting 2 0 0) 2 W 212 16) 19
+    ∷ is (markingRefusal (counting 2 0 0) 2 W 211 16) 17
     ∷ is (markingRefusal (counting 2 0 0) 2 [] 0 0) 1
     -- one of candidate 2's counts is full, each in turn; those of the others may be
     ∷ is (markingRefusal (counting 2 0 4_294_967_295) 2 [] 0 0) 25
     ∷ is (markingRefusal (counting 2 1 4_294_967_295) 2 [] 0 0) 25
     ∷ is (markingRefusal (counting 2 2 4_294_967_295) 2 [] 0 0) 25
-    ∷ is (markingRefusal (counting 2 0 4_294_967_294) 2 W 2120 176) 0
-    ∷ is (markingRefusal (counting 2 0 4_294_967_295) 3 W 2120 176) 0
-    ∷ is (markingRefusal (counting 2 2 4_294_967_295) 3 W 2120 176) 0
-    ∷ is (markingRefusal (counting 2 0 4_294_967_295) 1 W 2120 176) 0
+    ∷ is (markingRefusal (counting 2 0 4_294_967_294) 2 W 212 17) 0
+    ∷ is (markingRefusal (counting 2 0 4_294_967_295) 3 W 212 17) 0
+    ∷ is (markingRefusal (counting 2 2 4_294_967_295) 3 W 212 17) 0
+    ∷ is (markingRefusal (counting 2 0 4_294_967_295) 1 W 212 17) 0
     ∷ is (markingRefusal (counting 15 2 4_294_967_295) 15 [] 0 0) 25
     -- no candidate has the number, whatever the counts and the sheet are
     ∷ is (markingRefusal (counting 2 0 0) 16 [] 0 0) 26
     ∷ is (markingRefusal (counting 0 0 4_294_967_295) 16 [] 0 0) 26
     ∷ is (markingRefusal (replicate 51 4_294_967_295) 16 [] 0 0) 26
-    ∷ is (markingRefusal (counting 2 0 0) 256 W 2120 176) 26
+    ∷ is (markingRefusal (counting 2 0 0) 256 W 212 17) 26
     -- evaluation: 3, 4, 14 to 16, 18, 28, 19
     ∷ is (evaluationRefusal wAlphabet wAutomaton form 9) 0
     ∷ is (evaluationRefusal wAlphabet wAutomaton form 8) 19

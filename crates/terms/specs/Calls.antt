@@ -8,11 +8,10 @@ use Rattle.terms.specs.Test.{any, tabulate, joined}
 use Rattle.terms.specs.Refusal.{_when_, orElse, first}
 use Rattle.terms.specs.Answer.{Answer}
 use Rattle.terms.specs.Tree.{preorder, treeOf}
-use Rattle.terms.specs.Grammar.{terminalRank, nodeCount}
-use Rattle.terms.specs.Grammar.{Rule as Production}
+use Rattle.terms.specs.Grammar.{terminalRank}
 use Rattle.terms.specs.Automaton.{mask}
 use Rattle.terms.specs.Relation.{relationAt}
-use Rattle.terms.specs.Form.{Rule, Value, valueAt}
+use Rattle.terms.specs.Form.{Rule, Value, valueAt, formBound}
 use Rattle.terms.specs.Sheet.{Verdict, alphabetOf, rulesOf, transitionsOf, sheetMask, sheetVerdict, wrapped}
 use Rattle.terms.specs.Check.{alphabetRefusal, automatonRefusal, treeRefusal, sheetRefusal, mostNodes}
 use Rattle.terms.specs.FormBytes.{ruleCount, formLength, formRules, formTree, formRefusal}
@@ -27,21 +26,21 @@ lentAfter (suc n) written entry = entry
 
 -- Form making and marking.
 
--- how many rules of a form a right-side node may take (01 Unfolding)
-abbrev pub rulesForNode : ℕ
-rulesForNode = 16
-
--- how many rules a form of a grammar may take: so many for each right-side node (01 Unfolding)
-abbrev pub rulesFor : List Production → ℕ
-rulesFor grammar = rulesForNode * nodeCount grammar
-
--- how many rules a form of the sheet may take (01 Unfolding)
+-- how many rules a form of the sheet may take, which is how many numbers marking asks for: the sum over the sheet as written (02 R-6)
 abbrev pub rulesAsked : List ℕ → ℕ
-rulesAsked s = rulesFor (rulesOf s)
+rulesAsked s = formBound (rulesOf s)
 
--- how many bytes form making and marking ask for: those of a form of so many rules over the sheet's alphabet, 5 + T + 192 · G (02 R-5)
+-- no sheet that passes asks for more: 19 for every 4 of the 128 nodes that a sheet may have (02 R-6)
+abbrev pub mostAsked : ℕ
+mostAsked = 608
+
+-- how many bytes form making and marking ask for: those of a form of so many rules over the sheet's alphabet, 5 + T + 12 · sum (02 R-6)
 abbrev pub formAsked : List ℕ → ℕ
 formAsked s = formLength (length (alphabetOf s)) (rulesAsked s)
+
+-- what form making and marking ask for: bytes for the form, and numbers for its relations (02 R-6)
+abbrev pub roomAsked : List ℕ → ℕ × ℕ
+roomAsked s = (formAsked s, rulesAsked s)
 
 -- form making: 1 to 16, 17 (01 Refusals)
 unfoldable pub makingRefusal : List ℕ → ℕ → ℕ

@@ -3,19 +3,21 @@ use mathlib.Core.Path.{_≡_}
 use mathlib.Core.List.{List}
 use Prim.Native.Nat.{ℕ, _*_, _≤_}
 use Rattle.terms.specs.Tree.{preorder}
-use Rattle.terms.specs.Sheet.{alphabetOf, automatonOf, transitionsOf, sheetTree}
+use Rattle.terms.specs.Form.{linearBound}
+use Rattle.terms.specs.Sheet.{alphabetOf, automatonOf, rulesOf, transitionsOf, sheetTree}
 use Rattle.terms.specs.FormBytes.{ruleCount, headAlphabet, formTree, formRefusal}
 use Rattle.terms.specs.Runs.{TreeRuns}
 use Rattle.terms.specs.Count.{sizeOf}
 use Rattle.terms.specs.Calls.{rulesAsked, formAsked, makingRefusal, evaluationRefusal, formMask, countsPerRule, unfoldingRefusal, mostWalked, walkRefusal, walkMask}
 
--- the form carries the sheet's alphabet, is valid for it (neither 18 nor 28 is given), derives exactly the sheet's tree, and has at most 16 rules for each
--- right-side node (01 Unfolding, 02 R-5)
+-- the form carries the sheet's alphabet, is valid for it (neither 18 nor 28 is given), derives exactly the sheet's tree, and has no more rules than the sum over
+-- the sheet as written, and so at most 16 for each right-side node (01 Unfolding, 02 R-5, R-6)
 pub record FormOfSheet (sheet form : List ℕ) : Type 0 where
   pub carried : headAlphabet form ≡ alphabetOf sheet
   pub valid : formRefusal (alphabetOf sheet) form ≡ 0
   pub tree : formTree (alphabetOf sheet) form ≡ sheetTree sheet
   pub few : ruleCount form ≤ rulesAsked sheet
+  pub linear : ruleCount form ≤ linearBound (rulesOf sheet)
 
 -- the mask has bit q exactly where a run of the sheet's automaton on the sheet's tree ends in q at the root (01 Derived tree and run)
 abbrev pub MaskOfRuns : List ℕ → ℕ → Type 0

@@ -7,8 +7,7 @@ use native.Mathlib.Decide.{decLt}
 use lib.ListN.{length, List·getD-eq-default}
 use Rattle.terms.specs.Tree.{wholes, exactly}
 use Rattle.terms.specs.Grammar.{Name, terminal, nonterminal, parameter, nothing, name, Rule, ruleAt, ruleRank, nameRank, rankIn, nodeCount, Proper}
-use Rattle.terms.specs.Form.{share, sideBound, formBound}
-use Rattle.terms.specs.Calls.{rulesFor}
+use Rattle.terms.specs.Form.{share, sideBound, formBound, linearBound}
 use Rattle.terms.proofs.Tree.Whole.{taken}
 use Rattle.terms.proofs.Grammar.Sum.{rules-le}
 
@@ -40,5 +39,5 @@ module _ (alphabet : List ℕ) (rules : List Rule) (p : Proper alphabet rules) w
   bound-few = rules-le (λ r. sideBound rules (r .nodes)) (λ r. length (r .nodes)) 4 19 rules
       (λ i h. omega (arith, trees-share alphabet rules ranks-low (ruleAt rules i .nodes) 1 (p .proper i h .whole)))
 
-  pub bound-linear : formBound rules ≤ rulesFor rules
+  pub bound-linear : formBound rules ≤ linearBound rules
   bound-linear = omega (arith, bound-few)

@@ -9,9 +9,9 @@ use borrow.Author.Needs.{needs}
 use Rattle.sizing.specs.Size.{answerOfSize}
 use Rattle.terms.specs.Answer.{Answer}
 use Rattle.terms.specs.Sheet.{sheetTree}
-use Rattle.terms.specs.FormBytes.{formLength, ruleCount, terminalCount, mostFormRules}
+use Rattle.terms.specs.FormBytes.{formLength, ruleCount, terminalCount}
 use Rattle.terms.specs.Count.{Size, sizeOf, capped}
-use Rattle.terms.specs.Calls.{countsPerRule}
+use Rattle.terms.specs.Calls.{mostAsked, countsPerRule}
 use Rattle.mark_line.proofs.Sized.{Parts, parts, numberOf, size-is}
 use Rattle.mark_line.proofs.line.size_of.Statement.{statement}
 use Rattle.mark_line.proofs.line.size_of.Tie as tie
@@ -34,7 +34,7 @@ sized : (c : tie.After-size) {e : Answer Size} → answerOfSize (c .size .result
 sized c is =
     let form = measured c in
     let read = form .before .before .before in
-    size-is _ _ (known read) _ _ _ _ (read .word .ensures .0) (whole form) (length-replicate {A = ℕ} (countsPerRule * mostFormRules) 0) (c .size .ensures .0) is
+    size-is _ _ (known read) _ _ _ _ (read .word .ensures .0) (whole form) (length-replicate {A = ℕ} (countsPerRule * mostAsked) 0) (c .size .ensures .0) is
 
 word-requires : tie.Need-word-requires
 word-requires c κs = omega (arith, parts _ _ (c .before .before .pre) .long)

@@ -17,7 +17,7 @@ read-rules-requires c κs = search needs
 is-refused : tie.Need-enum-known-n
 is-refused c = search needs
 
-is-read : tie.Need-enum-known-counts
+is-read : tie.Need-enum-known-count
 is-read c = search needs
 
 check-automaton-requires : tie.Need-check-automaton-requires
@@ -29,7 +29,7 @@ rules-read c = c .before .before .before .before
 automaton-refused : tie.Need-returns-2
 automaton-refused c =
     let rules = rules-read (c .before) in
-    let read = sym (c .before .before .before .counts .given .1) ∙ rules .read-rules .ensures in
+    let read = sym (c .before .before .before .count .given .1) ∙ rules .read-rules .ensures in
     automaton-first _ _ _ (rules .before .before .check-alphabet .ensures) (rules .before .if1 .left) read (c .before .check-automaton .ensures) (c .if2 .taken)
 
 rules-refused : tie.Need-returns-3
@@ -40,7 +40,7 @@ rules-refused c =
 all-read : tie.Need-returns-4
 all-read c =
     let rules = rules-read (c .before) in
-    let read = sym (c .before .before .before .counts .given .1) ∙ rules .read-rules .ensures in
+    let read = sym (c .before .before .before .count .given .1) ∙ rules .read-rules .ensures in
     all-pass _ _ _ (rules .before .before .check-alphabet .ensures) (rules .before .if1 .left) read (c .before .check-automaton .ensures) (c .if2 .left)
 
 pub read-bodies-spec : {M : Type 1} → statement M

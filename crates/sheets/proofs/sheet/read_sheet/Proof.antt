@@ -11,8 +11,7 @@ use denote.Ref.{now}
 use lib.ListN.{length}
 use Rattle.terms.specs.Refusal.{outside}
 use Rattle.terms.specs.Check.{joins}
-use Rattle.sheets.proofs.Answer.{wrong-length, not-joined, bodies-refused, BodiesRead, bodies-read, sheet-read}
-use Rattle.sheets.proofs.Asked.{asked-small}
+use Rattle.sheets.proofs.Answer.{wrong-length, not-joined, bodies-refused, bodies-read}
 use Rattle.sheets.proofs.sheet.read_sheet.Statement.{statement}
 use Rattle.sheets.proofs.sheet.read_sheet.Tie as tie
 
@@ -42,21 +41,11 @@ read-joined-requires c κs = (omega arith, joined c)
 enum-known-n : tie.Need-enum-known-n
 enum-known-n c = search needs
 
-enum-known-counts : tie.Need-enum-known-counts
-enum-known-counts c = search needs
+enum-known-rules : tie.Need-enum-known-rules
+enum-known-rules c = search needs
 
 word-requires : tie.Need-word-requires
 word-requires c κs = search needs
-
--- where the bodies are read, nothing is refused of the sheet
-known : (c : tie.After-counts) → let test = c .before .before .before in
-    BodiesRead (sheet (test .before)) (fits (test .before)) (joined test) (c .counts .given .0 .0)
-known c =
-    let read = c .before .before in
-    bodies-read _ (fits (read .before .before)) (joined (read .before)) _ (sym (c .counts .given .1) ∙ read .read-joined .ensures)
-
-mul-t13 : tie.Need-mul-t13
-mul-t13 c = let read = known (c .before .before .before) in omega (arith, read .asked, asked-small _ (read .passes))
 
 word-requires-2 : tie.Need-word-requires-2
 word-requires-2 c κs = search needs
@@ -68,11 +57,11 @@ returns-3 c =
 
 returns-4 : tie.Need-returns-4
 returns-4 c =
-    let counts = c .before .before .before .before in
-    let test = counts .before .before .before in
-    sheet-read _ (fits (test .before)) (joined test) _ _ _ (known counts) (c .before .before .word .ensures .0) (c .word2 .ensures .0)
+    let told = c .before .before .before in
+    let read = told .before .before in
+    bodies-read _ (fits (read .before .before)) (joined (read .before)) (sym (told .rules .given .1) ∙ read .read-joined .ensures) (c .before .word .ensures .0) (c .word2 .ensures .0)
 
 pub read-sheet-spec : {M : Type 1} → statement M
 read-sheet-spec =
     tie.close
-    (tie.spec returns contents-join-requires returns-2 read-joined-requires enum-known-n enum-known-counts word-requires mul-t13 word-requires-2 returns-3 returns-4)
+    (tie.spec returns contents-join-requires returns-2 read-joined-requires enum-known-n enum-known-rules word-requires word-requires-2 returns-3 returns-4)
