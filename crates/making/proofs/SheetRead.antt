@@ -1,17 +1,15 @@
 -- What reading a sheet says of making its form: what is refused, and that its parts are a grammar over its alphabet.
 use mathlib.Core.Path.{_≡_, refl, sym, ap}
 use mathlib.Core.List.{List}
-use Prim.Native.Nat.{ℕ, zero, suc, _+_, _-_, _≤_, _<_}
+use Prim.Native.Nat.{ℕ, zero, suc, _≤_, _<_}
 use native.Mathlib.Omega.{arith}
-use lib.ListN.{length, take, drop, length-drop}
-use lib.Seq.{length-take-le}
+use lib.ListN.{length, length-drop}
 use Rattle.terms.specs.FormBytes.{headLength, formLength, behindHead}
-use Rattle.terms.specs.Sheet.{bodyOffset, body, alphabetOf, rulesBody, rulesOf}
+use Rattle.terms.specs.Sheet.{body, alphabetOf, rulesBody, rulesOf}
 use Rattle.terms.specs.Check.{sheetRefusal}
 use Rattle.terms.specs.Answer.{Answer, refused, answered, answer}
 use Rattle.terms.specs.Calls.{lentAfter, makingRefusal}
 use Rattle.terms.proofs.Sheet.Asked.{just-enough}
-use Rattle.terms.proofs.Sheet.Bodies.{Joined, joined}
 use Rattle.terms.proofs.Sheet.Grammar.{rules-passed}
 use Rattle.terms.proofs.Sheet.Passed.{SheetPassed, sheet-passed}
 use Rattle.skeletons.specs.Form.{madeForm}
@@ -34,29 +32,8 @@ module _ (s : List ℕ) (room : ℕ) where
       go (suc m) t e = let z : n ≡ suc m = cc in (rw t z, omega arith)
 
 module _ {s : List ℕ} {l : Layout} (r : SheetRead s l) where
-  abbrev at : ℕ
-  at = 12 + l .terminals
-
   passed : SheetPassed s
   passed = sheet-passed s (r .passed)
-
-  where-bodies : Joined s
-  where-bodies = joined s (passed .joined)
-
-  starts : bodyOffset s 1 ≡ at
-  starts =
-      let j = where-bodies in
-      omega (arith, r .terminals, ap length (j .alphabet), length-take-le (bodyOffset s 1 - 12) (drop 12 s) (omega (arith, length-drop 12 s, j .after-alphabet, j .after-rules)), j .after-contents)
-
-  -- where the parts lie
-  pub parts-there : (at ≤ l .automaton) × (l .automaton ≤ length s)
-  parts-there = omega (arith, starts, r .automaton, where-bodies .after-alphabet, where-bodies .after-rules)
-
-  pub alphabet-part : take (at - 12) (drop 12 s) ≡ alphabetOf s
-  alphabet-part = rw (← starts) (sym (where-bodies .alphabet))
-
-  pub rules-part : take (l .automaton - at) (drop at s) ≡ body s 1
-  rules-part = rw (r .automaton, ← starts) (sym (where-bodies .rules))
 
   -- the refusal of a slice that is too short, and none
   pub too-short : (room : ℕ) → room < formLength (l .terminals) (l .asked) → 17 ≡ makingRefusal s room

@@ -14,13 +14,13 @@ use Rattle.terms.proofs.Refusal.{is-first}
 use Rattle.terms.proofs.Demand.{walk-answers, form-meets}
 use Rattle.terms.proofs.Sheet.Asked.{just-enough}
 use Rattle.terms.proofs.Sheet.Automaton.{automaton-passed}
-use Rattle.terms.proofs.Sheet.Bodies.{joined}
 use Rattle.terms.proofs.Sheet.Passed.{sheet-passed}
 use Rattle.sheets.specs.declared.sheet.Layout.{Layout}
 use Rattle.making.specs.Making.{formOf}
 use Rattle.making.specs.Private.Read.{FormWritten}
 use Rattle.making.proofs.Formed.{form-of, written-first}
 use Rattle.sheets.proofs.Read.{SheetRead}
+use Rattle.sheets.proofs.Parts.{automaton-part}
 use Rattle.marking.specs.Marking.{SlicesLeft}
 use Rattle.marking.specs.Private.Verdict.{verdictOn}
 
@@ -61,11 +61,8 @@ module _ {s : List ℕ} {l : Layout} (read : SheetRead s l) (room numbers : ℕ)
 -- A sheet that was read.
 
 module _ {s : List ℕ} {l : Layout} (read : SheetRead s l) where
-  pub automaton-part : take (length s - l .automaton) (drop (l .automaton) s) ≡ automatonOf s
-  automaton-part = rw (read .automaton) (sym (joined s (sheet-passed s (read .passed) .joined) .automaton))
-
   pub automaton-long : 2 ≤ length (take (length s - l .automaton) (drop (l .automaton) s))
-  automaton-long = rw automaton-part (omega (arith, automaton-passed (alphabetOf s) (automatonOf s) (sheet-passed s (read .passed) .automaton) .long))
+  automaton-long = rw (automaton-part read) (omega (arith, automaton-passed (alphabetOf s) (automatonOf s) (sheet-passed s (read .passed) .automaton) .long))
 
   -- what the walk over the sheet's tree answers is the sheet's mask
   walked : walkMask (alphabetOf s) (automatonOf s) (preorder (sheetTree s)) ≡ sheetMask s

@@ -1,3 +1,4 @@
 pub mod Bodies
 pub mod Answer
 pub mod Read
+pub mod Parts

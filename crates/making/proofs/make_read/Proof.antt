@@ -2,7 +2,8 @@
 use native.Mathlib.Omega.{arith}
 use borrow.Author.Needs.{needs}
 use Rattle.sheets.proofs.Read.{SheetRead, sheet-read}
-use Rattle.making.proofs.SheetRead.{parts-there, alphabet-part, rules-part, grammar, sheet-made}
+use Rattle.sheets.proofs.Parts.{parts-there, alphabet-part, rules-part}
+use Rattle.making.proofs.SheetRead.{grammar, sheet-made}
 use Rattle.making.proofs.make_read.Statement.{statement}
 use Rattle.making.proofs.make_read.Tie as tie
 

@@ -4,8 +4,8 @@ use native.Mathlib.Omega.{arith}
 use lib.Seq.{length-take-le}
 use borrow.Author.Needs.{needs}
 use Rattle.sheets.proofs.Read.{SheetRead, sheet-read}
-use Rattle.making.proofs.SheetRead.{parts-there, alphabet-part}
-use Rattle.marking.proofs.Marked.{automaton-part, automaton-long, evaluable, verdict-is, slices-left}
+use Rattle.sheets.proofs.Parts.{parts-there, alphabet-part, automaton-part}
+use Rattle.marking.proofs.Marked.{automaton-long, evaluable, verdict-is, slices-left}
 use Rattle.marking.proofs.mark.mark_read.Statement.{statement}
 use Rattle.marking.proofs.mark.mark_read.Tie as tie
 
