@@ -17,7 +17,7 @@ use Rattle.cleaning_terms.proofs.Body.{bodyUpto, body-next}
 use Rattle.rule_parameters.specs.Numbers.{ruleFlags}
 use Rattle.cleaning.specs.Sifting.{Noted}
 use Rattle.cleaning.proofs.Parts.{nothing-behind}
-use Rattle.cleaning.specs.Clean.{longestBody, GrammarBody, RuleReady, RuleCleaned, Cleaned}
+use Rattle.cleaning.specs.Clean.{longestBody, GrammarBody, RuleReady, RuleCleaned, CleanedNoting}
 
 module _ {alphabet body : List ℕ} {count room : ℕ} (g : GrammarBody alphabet body count) (enough : longestBody ≤ room) where
   abbrev rules : List Rule
@@ -158,11 +158,12 @@ module _ {alphabet body : List ℕ} {count room : ℕ} (g : GrammarBody alphabet
             }
 
   -- all rules
-  pub all-cleaned : {at to i : ℕ} {ranks : List ℕ} {present alone : List Bool} {out : List ℕ} → Cleaning at to i ranks present alone out → count ≤ i → Cleaned alphabet body to out
+  pub all-cleaned : {at to i : ℕ} {ranks : List ℕ} {present alone : List Bool} {out : List ℕ} → Cleaning at to i ranks present alone out → count ≤ i → CleanedNoting alphabet body to ranks present out
   unfolding cleaned
   all-cleaned {at} {to} {i} {ranks} {present} {alone} {out} s most =
       let z : i ≡ length rules = omega (arith, g .count, s .passed .rules) in
       record {
-        within = omega (arith, short-body s, s .long, enough);
-        written = s .written ∙ ap (bodyUpto alphabet rules) z;
+        cleaned = record { within = omega (arith, short-body s, s .long, enough); written = s .written ∙ ap (bodyUpto alphabet rules) z };
+        alone = alone;
+        noted = rw z at (s .noted);
       }

@@ -49,3 +49,9 @@ pub record RuleCleaned (alphabet ranks : List ℕ) (present alone : List Bool) (
 pub record Cleaned (alphabet body : List ℕ) (end : ℕ) (out : List ℕ) : Type 0 where
   pub within : end ≤ length out
   pub written : take end out ≡ writtenRules (cleaned alphabet (rulesBody body .rules))
+
+-- the same, and all rules are noted: their ranks, the parameters that are present in them, and whether they are lone parameters (02 R-3, R-7)
+pub record CleanedNoting (alphabet body : List ℕ) (end : ℕ) (ranks : List ℕ) (present : List Bool) (out : List ℕ) : Type 0 where
+  pub cleaned : Cleaned alphabet body end out
+  pub alone : List Bool
+  pub noted : Noted alphabet (rulesBody body .rules) (length (rulesBody body .rules)) ranks present alone

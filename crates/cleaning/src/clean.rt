@@ -10,9 +10,12 @@ use rule_parameters::numbers::present_before;
 use rule_parameters::numbers::renumber;
 use rule_parameters::strict::is_lone;
 use terms::Rule;
+ghost use mathlib.Core.Path.{_≡_};
 ghost use Prim.Native.Nat.{_-_, _≤_};
 ghost use lib.ListN.{length};
-ghost use Rattle.cleaning.specs.Clean.{longestBody, GrammarBody, RuleReady, NodesCleaned, RuleCleaned, Cleaned};
+ghost use Rattle.terms.specs.Check.{mostRules};
+ghost use Rattle.rule_parameters.specs.Numbers.{ruleFlags};
+ghost use Rattle.cleaning.specs.Clean.{longestBody, GrammarBody, RuleReady, NodesCleaned, RuleCleaned, Cleaned, CleanedNoting};
 
 // The length of the longest rules body.
 pub const LONGEST_BODY: usize = 2 * MOST_RULES + MOST_NODES;
@@ -60,13 +63,19 @@ fn clean_rule(
     2 + kept
 }
 
-// The rules body of the cleaned grammar, written from the start of a slice: the answer is its length.
-pub fn clean(alphabet: &[u8], body: &[u8], rules: usize, cleaned: &mut [u8]) -> usize
-    requires { ⌜ GrammarBody (now alphabet) (now body) rules × (longestBody ≤ length (now cleaned)) ⌝ }
-    ensures { λ r. ⌜ Cleaned (now (alphabet .entry)) (now (body .entry)) r (now (cleaned .exit)) ⌝ }
+// The rules body of the cleaned grammar, written from the start of a slice: the answer is its length. Notes the ranks of the rules as written, and which of their
+// parameters are present.
+pub fn clean_noting(
+    alphabet: &[u8],
+    body: &[u8],
+    rules: usize,
+    ranks: &mut [u8; MOST_RULES],
+    present: &mut [bool; FLAGS],
+    cleaned: &mut [u8],
+) -> usize
+    requires { ⌜ GrammarBody (now alphabet) (now body) rules × (longestBody ≤ length (now cleaned)) × (length (now ranks) ≡ mostRules) × (length (now present) ≡ ruleFlags) ⌝ }
+    ensures { λ r. ⌜ CleanedNoting (now (alphabet .entry)) (now (body .entry)) r (now (ranks .exit)) (now (present .exit)) (now (cleaned .exit)) ⌝ }
 {
-    let mut ranks = [0u8; MOST_RULES];
-    let mut present = [false; FLAGS];
     let mut alone = [false; MOST_RULES];
     let mut at = 0;
     let mut to = 0;
@@ -78,8 +87,8 @@ pub fn clean(alphabet: &[u8], body: &[u8], rules: usize, cleaned: &mut [u8]) -> 
         ranks[rule.0 as usize] = span.rank;
         to += clean_rule(
             alphabet,
-            &ranks,
-            &mut present,
+            ranks,
+            present,
             &mut alone,
             rule,
             &body[start..end],
@@ -89,4 +98,14 @@ pub fn clean(alphabet: &[u8], body: &[u8], rules: usize, cleaned: &mut [u8]) -> 
         rule = Rule(rule.0 + 1);
     }
     to
+}
+
+// The same where nothing is to be noted.
+pub fn clean(alphabet: &[u8], body: &[u8], rules: usize, cleaned: &mut [u8]) -> usize
+    requires { ⌜ GrammarBody (now alphabet) (now body) rules × (longestBody ≤ length (now cleaned)) ⌝ }
+    ensures { λ r. ⌜ Cleaned (now (alphabet .entry)) (now (body .entry)) r (now (cleaned .exit)) ⌝ }
+{
+    let mut ranks = [0u8; MOST_RULES];
+    let mut present = [false; FLAGS];
+    clean_noting(alphabet, body, rules, &mut ranks, &mut present, cleaned)
 }

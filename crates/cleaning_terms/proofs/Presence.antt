@@ -71,7 +71,7 @@ unfolding count leaves
 count-leaves [] = refl
 count-leaves (m ∷ ms) = ap suc (count-leaves ms)
 
-pick-leaves : (n : ℕ) (g : ℕ → ℕ) (q : ℕ) → q < n → pick (leaves (tabulate n g)) q ≡ node (g q) none
+pub pick-leaves : (n : ℕ) (g : ℕ → ℕ) (q : ℕ) → q < n → pick (leaves (tabulate n g)) q ≡ node (g q) none
 unfolding pick leaves tabulate
 pick-leaves zero g q h = absurd (omega arith)
 pick-leaves (suc n) g zero h = refl

@@ -1,4 +1,4 @@
--- `cleaning::clean::clean` meets its contract. The invariant: what is written is the body of the rules before the present one, cleaned, and they are noted. The
+-- `cleaning::clean::clean_noting` meets its contract. The invariant: what is written is the body of the rules before the present one, cleaned, and they are noted. The
 -- measure is the number of rules left.
 use mathlib.Core.Path.{refl}
 use Prim.Native.Nat.{_-_, _≤_}
@@ -9,18 +9,18 @@ use Rattle.grammars.proofs.Body.{Standing}
 use Rattle.cleaning.specs.Clean.{longestBody, GrammarBody}
 use Rattle.cleaning.proofs.Parts.{part-long}
 use Rattle.cleaning.proofs.Cleaning.{Cleaning, none-cleaned, in-body, in-span, number-few, room-there, part-ready, rule-cleaned, short-body, all-cleaned}
-use Rattle.cleaning.proofs.clean.clean.Statement.{statement}
-use Rattle.cleaning.proofs.clean.clean.Tie as tie
+use Rattle.cleaning.proofs.clean.clean_noting.Statement.{statement}
+use Rattle.cleaning.proofs.clean.clean_noting.Tie as tie
 
 abbrev Inv-loop : tie.InvT-loop
-Inv-loop alphabet body rules cleaned₀ ranks₀ present₀ alone₀ at₀ to₀ rule₀ cleaned ranks present alone at to rule =
+Inv-loop alphabet body rules ranks₀ present₀ cleaned₀ alone₀ at₀ to₀ rule₀ ranks present cleaned alone at to rule =
     (g : GrammarBody alphabet body rules) (enough : longestBody ≤ length cleaned₀) → Cleaning g enough at to (rule .0) ranks present alone cleaned
 
 abbrev μ-loop : tie.MeasureT-loop
-μ-loop alphabet body rules cleaned₀ ranks₀ present₀ alone₀ at₀ to₀ rule₀ cleaned ranks present alone at to rule = rules - rule .0
+μ-loop alphabet body rules ranks₀ present₀ cleaned₀ alone₀ at₀ to₀ rule₀ ranks present cleaned alone at to rule = rules - rule .0
 
 loop-holds : tie.Need-loop-holds Inv-loop μ-loop
-loop-holds c = λ g enough. none-cleaned g enough refl refl refl refl
+loop-holds c = let start = c .before .before .before in λ g enough. none-cleaned g enough (start .pre .2) (start .pre .3) refl refl
 
 abbrev begin : tie.At-loop Inv-loop μ-loop → tie.Start Inv-loop μ-loop
 begin c = c .before .before .before .before
@@ -50,7 +50,7 @@ there c =
 number-fits : tie.Need-cast-ranks Inv-loop μ-loop
 number-fits c = search needs
 
-rank-written : tie.Need-array-write-ranks Inv-loop μ-loop
+rank-written : tie.Need-element-write-ranks Inv-loop μ-loop
 rank-written c =
     let test = c .before .before in
     let t = turn test in
@@ -127,8 +127,8 @@ same-length c = known (c .before .before) .long
 returns : tie.Need-returns Inv-loop μ-loop
 returns c = let t = c .before .before in all-cleaned (begin t .pre .0) (begin t .pre .1) (known t) (c .if1 .left)
 
-pub clean-spec : {M : Type 1} → statement M
-clean-spec =
+pub clean-noting-spec : {M : Type 1} → statement M
+clean-noting-spec =
     tie.close
     (tie.spec
     Inv-loop
