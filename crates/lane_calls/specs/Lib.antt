@@ -1,0 +1,2 @@
+-- The states of a call, as the code finds them.
+pub mod Call
