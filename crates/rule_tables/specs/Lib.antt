@@ -1,0 +1,4 @@
+pub mod Bytes
+pub mod Choice
+pub mod Table
+pub mod Rules
