@@ -1,14 +1,14 @@
 -- Demand 3 follows from what the four calls answer and leave.
-use mathlib.Core.Path.{_≡_, refl, ap, subst, _∙_}
+use mathlib.Core.Path.{_≡_, refl, subst}
 use mathlib.Core.List.{List}
 use Prim.Native.Nat.{ℕ, _*_, _≤_}
 use lib.ListN.{length, take}
 use Rattle.terms.specs.Tree.{Tree, preorder}
-use Rattle.terms.specs.Sheet.{alphabetOf, automatonOf, sheetTree}
+use Rattle.terms.specs.Sheet.{alphabetOf, automatonOf, sheetTree, sheetMask}
 use Rattle.terms.specs.Check.{sheetRefusal}
 use Rattle.terms.specs.FormBytes.{ruleCount}
 use Rattle.terms.specs.Count.{sizeOf}
-use Rattle.terms.specs.Answer.{Answer, refused, answered, answer, answerOfMask, answerOfLength}
+use Rattle.terms.specs.Answer.{Answer, refused, answered, answerOfMask, answerOfLength}
 use Rattle.terms.specs.Calls.{formAsked, countsPerRule, formMask, mostWalked}
 use Rattle.terms.specs.Demand.{FormOfSheet, Demand3}
 use Rattle.terms.proofs.Demand.{form-meets}
@@ -36,6 +36,10 @@ module _ (sheet : List ℕ) (answers : Answers) (form : List ℕ) (lent : Slices
     demand : Demand3 sheet written
     demand = form-meets sheet passes written formed
 
+    mask-is : formMask alphabet automaton written ≡ sheetMask sheet
+    unfolding formMask sheetMask
+    mask-is = rw (formed .tree) refl
+
     module _ (counts : countsPerRule * ruleCount written ≤ length (lent .counts)) (long : sizeOf tree ≤ length (lent .tree)) where
       nodes-written : answerOfLength (answers .unfolded) ≡ answered (sizeOf tree)
       nodes-written = unfolds (ran .unfolded) tree (formed .tree) (demand .unfolded _ _ counts long)
@@ -43,19 +47,18 @@ module _ (sheet : List ℕ) (answers : Answers) (form : List ℕ) (lent : Slices
       tree-written : take (sizeOf tree) (left .tree) ≡ preorder tree
       tree-written = tree-first (ran .unfolded) tree (formed .tree) (demand .unfolded _ _ counts long)
 
-      same-mask : sizeOf tree ≤ mostWalked → sizeOf tree ≤ length (lent .masks) → answerOfMask (answers .walked) ≡ answered (formMask alphabet automaton written)
+      same-mask : sizeOf tree ≤ mostWalked → sizeOf tree ≤ length (lent .masks) → answerOfMask (answers .walked) ≡ answered (sheetMask sheet)
       same-mask small masks =
           let w = subst (λ (u : Answer ℕ). Walked alphabet automaton u (left .tree) (answerOfMask (answers .walked)) (left .masks) (lent .masks)) nodes-written (ran .walked) in
-          rw (tree-written, demand .walked small _ masks, demand .same) at (w .0)
+          rw (tree-written, demand .walked small _ masks, demand .same, mask-is) at (w .0)
 
     certificate : Certificate sheet answers lent form′ left
     certificate = record {
       written = n;
-      mask = formMask alphabet automaton written;
       made = made;
       formed = formed;
-      evaluated = λ h. ran .evaluated ∙ ap (λ (z : ℕ). answer z (formMask alphabet automaton written)) (demand .evaluated _ h);
-      runs = demand .mask;
+      evaluated = λ h. rw (demand .evaluated _ h, mask-is) at (ran .evaluated);
+      runs = rw mask-is at (demand .mask);
       unfolded = λ h k. (nodes-written h k, tree-written h k);
       walked = same-mask;
     }

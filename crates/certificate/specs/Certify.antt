@@ -4,7 +4,7 @@ use mathlib.Core.List.{List}
 use Prim.Native.Nat.{ℕ, _*_, _≤_}
 use lib.ListN.{length, take}
 use Rattle.terms.specs.Tree.{preorder}
-use Rattle.terms.specs.Sheet.{alphabetOf, automatonOf, sheetTree}
+use Rattle.terms.specs.Sheet.{alphabetOf, automatonOf, sheetTree, sheetMask}
 use Rattle.terms.specs.Check.{sheetRefusal}
 use Rattle.terms.specs.FormBytes.{ruleCount}
 use Rattle.terms.specs.Count.{sizeOf}
@@ -69,19 +69,18 @@ pub record CallsMade (sheet : List ℕ) (answers : Answers) (form : List ℕ) (l
 -- the four calls on a sheet that is not refused, with 5 + T + 12 · sum form bytes lent (01 Unfolding, 02 R-5, R-6)
 pub record Certificate (sheet : List ℕ) (answers : Answers) (lent : Slices) (form′ : List ℕ) (left : Slices) : Type 0 where
   pub written : ℕ
-  pub mask : ℕ
   -- form making is not refused; the form is valid, derives exactly the sheet's tree, and has no more rules than the sum, and so at most 16 for each right-side node
   pub made : answerOfLength (answers .made) ≡ answered written
   pub formed : FormOfSheet sheet (take written form′)
   -- with R numbers lent, evaluation is not refused; the mask has bit q exactly where a run on the sheet's tree ends in q at the root
-  pub evaluated : ruleCount (take written form′) ≤ length (lent .relations) → answerOfMask (answers .evaluated) ≡ answered mask
-  pub runs : MaskOfRuns sheet mask
+  pub evaluated : ruleCount (take written form′) ≤ length (lent .relations) → answerOfMask (answers .evaluated) ≡ answered (sheetMask sheet)
+  pub runs : MaskOfRuns sheet (sheetMask sheet)
   -- with 2 · R numbers and as many bytes as the tree has nodes lent, unfolding writes exactly that tree
   pub unfolded : countsPerRule * ruleCount (take written form′) ≤ length (lent .counts) → sizeOf (sheetTree sheet) ≤ length (lent .tree)
       → (answerOfLength (answers .unfolded) ≡ answered (sizeOf (sheetTree sheet))) × (take (sizeOf (sheetTree sheet)) (left .tree) ≡ preorder (sheetTree sheet))
   -- and where it has at most 4,096 nodes, with as many bytes lent once more, the walk over what was written answers the same mask
   pub walked : countsPerRule * ruleCount (take written form′) ≤ length (lent .counts) → sizeOf (sheetTree sheet) ≤ length (lent .tree)
-      → sizeOf (sheetTree sheet) ≤ mostWalked → sizeOf (sheetTree sheet) ≤ length (lent .masks) → answerOfMask (answers .walked) ≡ answered mask
+      → sizeOf (sheetTree sheet) ≤ mostWalked → sizeOf (sheetTree sheet) ≤ length (lent .masks) → answerOfMask (answers .walked) ≡ answered (sheetMask sheet)
 
 -- demand 3, for every byte string that refusals 1 to 16 let through, with 5 + T + 12 · sum form bytes lent, whatever the slices held before (01 Unfolding, 02 R-5, R-6)
 abbrev pub Certified : List ℕ → Answers → List ℕ → Slices → List ℕ → Slices → Type 0
