@@ -6,13 +6,13 @@ use native.Mathlib.Omega.{arith}
 use lib.Dec.{T, ltb→lt}
 use lib.ListN.{length, getD, drop, take, set, length-drop, length-set}
 use lib.Seq.{drop-cons, getD-drop, drop-drop, drop-set-lt, getD-set-same, take-all}
-use Rattle.terms.specs.Tree.{Wholes, exactly, lacking, taking, wholes}
+use Rattle.terms.specs.Tree.{exactly, taking, wholes}
 use Rattle.terms.specs.Grammar.{Name, terminal, nonterminal, parameter, nothing, name, ruleRank, nameRank, rankIn, allowed, sumOver}
 use Rattle.terms.specs.Form.{share, sideBound}
 use Rattle.terms.specs.Check.{mostRules, mostNodes}
 use Rattle.terms.proofs.Test.{all-at, is-true}
 use Rattle.terms.proofs.Grammar.Sum.{sum-over-drop}
-use Rattle.terms.proofs.Scan.{wholes-part}
+use Rattle.terms.proofs.Scan.{some-whole}
 use Rattle.terms.proofs.Tree.Whole.{taken}
 use Rattle.skeletons.specs.Skeleton.{Skeletons, param, nil, cons}
 use Rattle.skeletons.specs.Make.{Mades, name-made}
@@ -53,14 +53,6 @@ module _ (cells : List ℕ) (limit : ℕ) where
   row-pop (suc k) xs nil p = tt
   row-pop (suc k) [] (cons s ss) p = absurd p
   row-pop (suc k) (x ∷ xs) (cons s ss) p = row-pop k xs ss (p .2)
-
--- what stands behind a place is whole
-some-whole : (rank : ℕ → ℕ) (xs : List ℕ) (i n : ℕ) → wholes rank xs ≡ exactly n → (m : ℕ) × (wholes rank (drop i xs) ≡ exactly m)
-some-whole rank xs i n e = go (wholes rank (drop i xs)) refl
-  where
-    go : (w : Wholes) → wholes rank (drop i xs) ≡ w → (m : ℕ) × (w ≡ exactly m)
-    go (exactly m) t = (m, refl)
-    go lacking t = absurd (let y = wholes-part rank xs i t in let z : _≡_ {A = ℕ} 0 1 = cc in omega arith)
 
 module _ {table₀ space₀ : List ℕ} {free₀ : Free} {alphabet ranks roots nodes : List ℕ} (g : RightSide table₀ space₀ free₀ alphabet ranks roots nodes) where
   abbrev rankOf : ℕ → ℕ

@@ -11,21 +11,21 @@ use lib.ListN.{length, getD, drop, take, set, length-drop, length-set, List·get
 use lib.Seq.{drop-cons, drop-drop, drop-length, drop-set-lt, getD-set-same, length-take-le}
 use borrow.Author.Tests.{lt-ltb, le-ltb}
 use Rattle.terms.specs.Test.{tabulate}
-use Rattle.terms.specs.Tree.{Wholes, exactly, lacking, taking, wholes}
-use Rattle.terms.specs.Grammar.{Name, terminal, nonterminal, parameter, nothing, name, ruleAt, ruleRank, nameRank, terminalRank, rankIn, allowed, Rule}
+use Rattle.terms.specs.Tree.{exactly, taking, wholes}
+use Rattle.terms.specs.Grammar.{Name, terminal, nonterminal, parameter, nothing, name, ruleRank, nameRank, rankIn, allowed}
 use Rattle.terms.specs.Automaton.{Transition}
 use Rattle.terms.specs.Sheet.{stateCount, transitionsOf}
 use Rattle.terms.specs.Check.{mostRules, mostNodes, highestRank}
 use Rattle.terms.proofs.Test.{all-at, is-true}
 use Rattle.terms.proofs.Tabulate.{length-tabulate, getD-tabulate}
-use Rattle.terms.proofs.Scan.{wholes-part}
+use Rattle.terms.proofs.Scan.{some-whole}
 use Rattle.terms.proofs.Tree.Whole.{taken}
 use Rattle.terms.proofs.Form.Bytes.{rank-le}
 use Rattle.terms.proofs.Sheet.Passed.{alphabet-passed}
 use Rattle.terms.proofs.Sheet.Automaton.{automaton-passed}
 use Rattle.nodes.specs.Nodes.{ruledBy, HasRank}
 use Rattle.nodes.proofs.Node as node
-use Rattle.cleaning_terms.specs.Cleaning.{stands, siftedRules, ruleSifted}
+use Rattle.cleaning_terms.specs.Cleaning.{stands, ruleSifted}
 use Rattle.cleaning_terms.specs.Cleaning as sifted
 use Rattle.cleaning_terms.specs.Presence.{Occurs, isPresent}
 use Rattle.cleaning_terms.proofs.Sifted.{sifted-at}
@@ -48,14 +48,6 @@ map-drop : (f : ℕ → ℕ) (n : ℕ) (xs : List ℕ) → map f (drop n xs) ≡
 map-drop f zero xs = refl
 map-drop f (suc n) [] = refl
 map-drop f (suc n) (x ∷ xs) = map-drop f n xs
-
--- what stands behind a place is whole
-some-whole : (rank : ℕ → ℕ) (xs : List ℕ) (i n : ℕ) → wholes rank xs ≡ exactly n → (m : ℕ) × (wholes rank (drop i xs) ≡ exactly m)
-some-whole rank xs i n e = go (wholes rank (drop i xs)) refl
-  where
-    go : (w : Wholes) → wholes rank (drop i xs) ≡ w → (m : ℕ) × (w ≡ exactly m)
-    go (exactly m) t = (m, refl)
-    go lacking t = absurd (let y = wholes-part rank xs i t in let z : _≡_ {A = ℕ} 0 1 = cc in omega arith)
 
 module _ {alphabet automaton links spread tables ranks : List ℕ} {present : List Bool} {nodes : List ℕ} {choice lanes : ℕ}
     (g : SideReady alphabet automaton links spread tables ranks present nodes choice lanes) where

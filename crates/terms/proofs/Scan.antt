@@ -7,7 +7,7 @@ use native.Mathlib.Omega.{arith}
 use lib.ListN.{length, getD, drop}
 use lib.Seq.{drop-cons}
 use Rattle.terms.specs.Test.{all, every}
-use Rattle.terms.specs.Tree.{lacking, taking, wholes}
+use Rattle.terms.specs.Tree.{Wholes, exactly, lacking, taking, wholes}
 
 -- the part that starts one place before i
 pub drop-back : {A : Type 0} (xs : List A) (i : ℕ) (d : A) → 0 < i → i ≤ length xs → drop (i - 1) xs ≡ getD xs (i - 1) d ∷ drop i xs
@@ -50,6 +50,14 @@ unfolding wholes taking
 wholes-part rank xs zero e = e
 wholes-part rank [] (suc i) e = e
 wholes-part rank (x ∷ xs) (suc i) e = rw (wholes-part rank xs i e)
+
+-- what stands behind a place is whole
+pub some-whole : (rank : ℕ → ℕ) (xs : List ℕ) (i n : ℕ) → wholes rank xs ≡ exactly n → (m : ℕ) × (wholes rank (drop i xs) ≡ exactly m)
+some-whole rank xs i n e = go (wholes rank (drop i xs)) refl
+  where
+    go : (w : Wholes) → wholes rank (drop i xs) ≡ w → (m : ℕ) × (w ≡ exactly m)
+    go (exactly m) t = (m, refl)
+    go lacking t = absurd (let y = wholes-part rank xs i t in let z : _≡_ {A = ℕ} 0 1 = cc in omega arith)
 
 -- two tests of the numbers below n that agree
 pub every-cong : (n : ℕ) (p q : ℕ → Bool) → ((k : ℕ) → p k ≡ q k) → every n p ≡ every n q
