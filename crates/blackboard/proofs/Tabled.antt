@@ -1,13 +1,12 @@
 -- What the blackboard method answers and leaves, by what was read of a sheet and by the length of the slice.
 use mathlib.Core.Path.{_≡_, refl, sym, _∙_, ap}
-use mathlib.Core.List.{List, _++_}
+use mathlib.Core.List.{List}
 use Prim.Native.Nat.{ℕ, zero, suc, _+_, _*_, _-_, _≤_, _<_}
 use native.Mathlib.Omega.{arith}
 use lib.ListN.{length, getD, drop, length-append, List·getD-append}
 use borrow.Author.Tests.{lt-ltb}
-use Rattle.terms.specs.Test.{joined}
 use Rattle.terms.specs.Answer.{Answer, refused, answered, answer}
-use Rattle.terms.specs.Sheet.{alphabetOf, automatonOf, body, rulesBody, rulesOf, stateCount, transitionsOf, sheetMask}
+use Rattle.terms.specs.Sheet.{alphabetOf, automatonOf, body, rulesOf, stateCount, transitionsOf, sheetMask}
 use Rattle.terms.specs.Check.{sheetRefusal}
 use Rattle.terms.specs.Calls.{lentAfter}
 use Rattle.terms.proofs.Sheet.Grammar.{rules-passed}
@@ -15,7 +14,7 @@ use Rattle.terms.proofs.Sheet.Passed.{SheetPassed, sheet-passed, sheet-proper}
 use Rattle.sheets.specs.Sheet.{layoutOf, sheetReading}
 use Rattle.sheets.specs.declared.sheet.Layout.{Layout}
 use Rattle.sheets.proofs.Read.{SheetRead}
-use Rattle.blackboard_terms.specs.Blackboard.{tableLength, ruleTable, tablesOf, blackboardRefusal}
+use Rattle.blackboard_terms.specs.Blackboard.{tableLength, tablesOf, blackboardRefusal}
 use Rattle.blackboard_terms.proofs.Tables.{length-tables, tables-byte}
 use Rattle.blackboard_terms.proofs.Sheet.{sheet-byte, blackboard-runs}
 use Rattle.rule_tables.specs.Rules.{RulesReady, TablesWritten}

@@ -1,9 +1,9 @@
 -- The bits of a table's byte: the states at the root are those that runs end in which enter by the choice.
 use mathlib.Core.Logic.{_↔_, _⊎_, inl, inr}
-use mathlib.Core.Path.{_≡_, refl, ap, sym, subst}
+use mathlib.Core.Path.{_≡_, refl, subst}
 use mathlib.Core.Bool.{Bool, true, false, cond}
-use mathlib.Core.List.{List, [], _++_}
-use Prim.Native.Nat.{ℕ, _^_, _≤_, _<_}
+use mathlib.Core.List.{List}
+use Prim.Native.Nat.{ℕ, _≤_, _<_}
 use native.Mathlib.Omega.{arith}
 use lib.Dec.{T}
 use lib.ListN.{length}
@@ -11,7 +11,7 @@ use Rattle.terms.specs.Tree.{Tree, node}
 use Rattle.terms.specs.Grammar.{Rule, ruleRank, Proper}
 use Rattle.terms.specs.Automaton.{Transition, In, Small, Run, has, mask}
 use Rattle.terms.proofs.Test.{is-true, of-true}
-use Rattle.terms.proofs.Automaton.Mask.{mask-run, run-mask, mask-lt}
+use Rattle.terms.proofs.Automaton.Mask.{mask-run, run-mask}
 use Rattle.cleaning_terms.specs.Presence.{openTree}
 use Rattle.blackboard_terms.specs.Blackboard.{entering, opened, BitSet, stateAt, isChoice, tableByte}
 use Rattle.blackboard_terms.proofs.Sets.{has-none}

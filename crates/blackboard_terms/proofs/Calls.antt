@@ -1,22 +1,22 @@
 -- The states of a call, from the table of its rule and the states of its arguments, are those that runs end in on the tree that the call becomes.
 use mathlib.Core.Logic.{_↔_}
-use mathlib.Core.Path.{_≡_, refl, sym, _∙_, ap, subst}
+use mathlib.Core.Path.{_≡_, refl, sym, _∙_}
 use mathlib.Core.Bool.{Bool, true, false, cond, _&&_}
 use mathlib.Core.List.{List}
 use Prim.Native.Nat.{ℕ, zero, suc, _≤_, _<_}
 use native.Mathlib.Omega.{arith}
 use lib.Dec.{T}
 use lib.ListN.{length, getD}
-use Rattle.terms.specs.Test.{some, every, tabulate}
+use Rattle.terms.specs.Test.{some}
 use Rattle.terms.specs.Tree.{Forest, none, more, count, pick}
 use Rattle.terms.specs.Grammar.{Rule, ruleRank, rightSide, apply, Proper}
 use Rattle.terms.specs.Automaton.{Transition, Run, has, mask, masks}
-use Rattle.terms.proofs.Test.{is-true, of-true, both, both-0, both-1, some-in, some-out, every-at, every-of}
+use Rattle.terms.proofs.Test.{both, both-0, both-1, some-in, some-out, every-at, every-of}
 use Rattle.terms.proofs.Tabulate.{getD-tabulate}
-use Rattle.terms.proofs.Automaton.Bits.{power-has, power-only}
+use Rattle.terms.proofs.Automaton.Bits.{power-has}
 use Rattle.terms.proofs.Automaton.Mask.{mask-run, run-mask}
 use Rattle.cleaning_terms.specs.Presence.{Occurs}
-use Rattle.blackboard_terms.specs.Blackboard.{stateAt, tableByte, tableLength, ruleTable}
+use Rattle.blackboard_terms.specs.Blackboard.{stateAt, tableByte, ruleTable}
 use Rattle.blackboard_terms.specs.Step.{entered, fromSets, callStates}
 use Rattle.blackboard_terms.proofs.Term.{Term, openTerm, RunOpen, Present}
 use Rattle.blackboard_terms.proofs.Open.{open-apply}

@@ -1,16 +1,15 @@
 -- Runs that enter at the parameters of a rule are the open runs on its term, and a parameter occurs in what the rule derives where the term has a place for it.
 use mathlib.Core.Logic.{_↔_, _⊎_, inl, inr}
 use mathlib.Core.Path.{_≡_, refl, sym, _∙_, ap, subst}
-use mathlib.Core.Bool.{cond}
-use mathlib.Core.List.{List, [], _∷_, _++_}
-use Prim.Native.Nat.{ℕ, _+_, _-_, _≤_, _<_}
+use mathlib.Core.List.{List, [], _++_}
+use Prim.Native.Nat.{ℕ, _+_, _-_, _<_}
 use native.Mathlib.Omega.{arith}
 use native.Mathlib.Decide.{decLt}
 use lib.ListN.{length, getD, length-append, List·getD-append}
 use lib.Seq.{getD-append-add}
 use Rattle.terms.specs.Test.{tabulate}
 use Rattle.terms.specs.Tree.{Tree, Forest, node, none, pick, preorder, preorders}
-use Rattle.terms.specs.Grammar.{name, Rule, ruleRank, isParameter, sumOver, Proper}
+use Rattle.terms.specs.Grammar.{Rule, ruleRank, isParameter, sumOver, Proper}
 use Rattle.terms.specs.Automaton.{Transition, In, Run}
 use Rattle.terms.proofs.Tabulate.{length-tabulate, getD-tabulate}
 use Rattle.terms.proofs.Grammar.Name.{name-terminal, name-parameter}

@@ -12,7 +12,7 @@ use lib.Pow.{pow-lt}
 use Rattle.terms.specs.Test.{tabulate}
 use Rattle.terms.specs.Tree.{Tree, Forest, node, none, more, count, pick}
 use Rattle.terms.specs.Grammar.{Name, terminal, nonterminal, parameter, nothing, name, Rule, ruleAt, ruleRank, rankIn, rightSide, nameValue, value, values, apply, Proper}
-use Rattle.terms.specs.Automaton.{Transition, In, allIn, has, step, mask, masks}
+use Rattle.terms.specs.Automaton.{Transition, has, step, mask, masks}
 use Rattle.terms.proofs.Test.{is-true}
 use Rattle.terms.proofs.Automaton.Bits.{power-has, power-only}
 use Rattle.terms.proofs.Automaton.Step.{step-in, step-out, step-lt}

@@ -5,7 +5,6 @@ use mathlib.Core.Bool.{Bool, false}
 use mathlib.Core.List.{List}
 use Prim.Native.Nat.{ℕ, _^_, _<_}
 use native.Mathlib.Omega.{arith}
-use native.Mathlib.Decide.{decLt}
 use lib.Dec.{T}
 use Rattle.terms.specs.Automaton.{has, setOf}
 use Rattle.terms.proofs.Automaton.Bits.{has-set, has-above, set-lt, set-cong, set-whole}

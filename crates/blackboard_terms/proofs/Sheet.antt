@@ -1,12 +1,12 @@
 -- The tables of a sheet that is not refused: their bits are those of runs, and the first byte of the start's table is the sheet's mask.
 use mathlib.Core.Logic.{_↔_}
-use mathlib.Core.Path.{_≡_, refl, sym, _∙_, ap, ap₂, subst}
+use mathlib.Core.Path.{_≡_, refl, sym, _∙_, subst}
 use mathlib.Core.Bool.{Bool, true, false}
 use mathlib.Core.List.{List, [], _∷_, _++_, append-nil}
 use Prim.Native.Nat.{ℕ, zero, suc, _+_, _*_, _-_, _/_, _%_, _≤_, _<_}
 use native.Mathlib.Omega.{arith}
-use lib.Dec.{T, eqb}
-use lib.ListN.{length, getD, List·getD-append}
+use lib.Dec.{eqb}
+use lib.ListN.{length, List·getD-append}
 use borrow.Author.Tests.{eqb-true, eqb-false, le-ltb}
 use Rattle.terms.specs.Test.{every, tabulate, joined}
 use Rattle.terms.specs.Tree.{pick, forestOf, treeOf}

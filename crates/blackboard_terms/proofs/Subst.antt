@@ -1,5 +1,4 @@
 -- The runs on a term with trees in its open places: runs on those trees, and an open run on the term that enters where they end.
-use mathlib.Core.Logic.{_↔_}
 use mathlib.Core.Path.{_≡_, refl, sym, _∙_, subst}
 use mathlib.Core.Bool.{cond}
 use mathlib.Core.List.{List, [], _∷_}

@@ -5,7 +5,7 @@ use Prim.Native.Nat.{ℕ, suc}
 use lib.Dec.{eqb}
 use Rattle.terms.specs.Test.{tabulate}
 use Rattle.terms.specs.Sheet.{alphabetOf, rulesOf, automatonOf, stateCount, transitionsOf, sheetMask, sheetOf}
-use Rattle.terms.specs.Examples.{hex, W, wWith, wAlphabet, wAutomaton}
+use Rattle.terms.specs.Examples.{hex, W, wWith, wAlphabet}
 use Rattle.terms.specs.CallExamples.{CallRow, is, ruled}
 use Rattle.blackboard_terms.specs.Blackboard.{tableByte, blackboardRefusal}
 

@@ -1,5 +1,5 @@
 -- The table of a rule, filled choice by choice: what is written are its bytes, and the rest is clear.
-use mathlib.Core.Path.{_≡_, refl, sym, _∙_, ap, subst}
+use mathlib.Core.Path.{_≡_, refl, sym, _∙_, ap}
 use mathlib.Core.Bool.{Bool, true, false, _&&_, and-false}
 use mathlib.Core.List.{List, _++_}
 use Prim.Native.Nat.{ℕ, zero, suc, _+_, _*_, _-_, _/_, _%_, _≤_, _<_}
@@ -10,17 +10,15 @@ use lib.Dec.{ltb}
 use lib.ListN.{length, getD, take, drop, length-drop}
 use lib.Seq.{getD-take, getD-drop, length-take-le}
 use borrow.Author.Tests.{lt-ltb, le-ltb}
-use Rattle.terms.specs.Grammar.{Rule, ruleRank}
-use Rattle.terms.specs.Automaton.{Transition}
+use Rattle.terms.specs.Grammar.{ruleRank}
 use Rattle.terms.specs.Sheet.{stateCount, transitionsOf}
-use Rattle.terms.proofs.Test.{of-true}
 use Rattle.terms.proofs.Sheet.Automaton.{AutomatonPassed, automaton-passed}
 use Rattle.blackboard_terms.specs.Blackboard.{isChoice, tableByte, tableLength}
 use Rattle.blackboard_terms.proofs.Method.{byte-clear}
 use Rattle.side_relations.specs.Side.{RuleGiven, SideReady, SideRelated}
 use Rattle.rule_tables.specs.Bytes.{AllClear, LanesWritten}
 use Rattle.rule_tables.specs.Choice.{lanesOf, choicesOf, statesBehind}
-use Rattle.rule_tables.specs.Table.{TableReady, TableWritten}
+use Rattle.rule_tables.specs.Table.{TableReady}
 use Rattle.rule_tables.proofs.Choices.{laneChoice, choice-lane}
 use Rattle.rule_tables.proofs.Patch.{patched-long, patched-before, patched-there, patched-behind}
 

@@ -9,7 +9,7 @@ use borrow.Author.Count.{below-more}
 use lib.ListN.{length, getD, drop, length-append, length-drop, List·getD-append}
 use lib.Seq.{ext-getD, getD-append-add, getD-drop}
 use Rattle.terms.specs.Test.{joined}
-use Rattle.terms.specs.Grammar.{Rule, ruleRank}
+use Rattle.terms.specs.Grammar.{Rule}
 use Rattle.terms.specs.Sheet.{rulesBody, stateCount, transitionsOf}
 use Rattle.terms.specs.Check.{mostRules}
 use Rattle.relations.specs.Spread.{Spreads}

@@ -1,10 +1,9 @@
 -- `rule_tables::rules::write_tables` meets its contract. The invariant: the rules before the present one have their tables, and later bytes are kept. The measure is
 -- the number of rules left.
-use mathlib.Core.Path.{_≡_, refl}
-use Prim.Native.Nat.{_-_, _≤_}
+use mathlib.Core.Path.{refl}
+use Prim.Native.Nat.{_-_}
 use native.Mathlib.Omega.{arith}
 use borrow.Author.Needs.{needs}
-use lib.ListN.{length}
 use Rattle.terms.proofs.Sheet.Automaton.{AutomatonPassed, automaton-passed}
 use Rattle.grammars.proofs.Body.{Standing}
 use Rattle.rule_tables.specs.Rules.{RulesReady}

@@ -1,6 +1,6 @@
 -- `side_relations::side::side_relation` meets its contract. The invariant: in each lane, the stack has the sets that a scan of the nodes passed finds, the last ones.
 use mathlib.Core.Path.{_≡_, refl}
-use Prim.Native.Nat.{ℕ, _+_, _-_, _≤_, _<_}
+use Prim.Native.Nat.{_+_, _-_, _≤_, _<_}
 use native.Mathlib.Omega.{arith}
 use lib.ListN.{length}
 use Rattle.terms.specs.Check.{mostNodes, highestRank}
