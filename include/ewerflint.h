@@ -12,7 +12,8 @@
  * the form, and for marking as many numbers as the sum, which counts 2 for each terminal node of the sheet as written and 4 n - 3 for each
  * call of a rule of rank n above 0, rules that are never called and dropped arguments included. ewf_room tells both. No form that is made
  * has more rules than the sum, and most have fewer; the form's own R is what the calls on it ask for. A caller that does not want to ask
- * lends what is enough for every sheet: EWF_MOST_ASKED_BYTES and EWF_MOST_ASKED_NUMBERS.
+ * lends what is enough for every sheet: EWF_MOST_ASKED_BYTES and EWF_MOST_ASKED_NUMBERS. The blackboard method asks for EWF_TABLES(K) bytes,
+ * where K is the number of rules of the sheet; EWF_MOST_TABLES is enough for every sheet.
  *
  * Memory of marking, beside the stack: what is lent for form and relations. 12,197 bytes are enough for every sheet (7,333 bytes and 608
  * numbers of 8 bytes), where 16 rules for each node took up to 40,997 (24,613 and 2,048); W takes 348 (212 and 17), where it took 3,528,
@@ -26,10 +27,10 @@
  * where none writes what another one is given.
  *
  * Stack. The most bytes that each call was seen to take, on the inputs of link/stack.c, which go deepest; link/stack measures them anew.
- *   ewf_room 238            ewf_make_form 11,204    ewf_mark 11,396      ewf_evaluate 3,304     ewf_size 152     ewf_label 33,016
- *   ewf_read_rule 88        ewf_unfold 329,744      ewf_walk 524,924     ewf_wrap 216           ewf_practice 168
+ *   ewf_room 238            ewf_make_form 11,172    ewf_mark 11,364      ewf_evaluate 3,304     ewf_size 152     ewf_label 33,016
+ *   ewf_read_rule 88        ewf_unfold 329,744      ewf_walk 524,924     ewf_wrap 216           ewf_practice 168 ewf_blackboard 4,920
  * Unfolding takes 144 bytes for each level of a form's rules, the walk 128 for each level of its tree. No other call goes deeper with
- * what it is given, save making and marking, which take 8,516 to 8,820 and 8,708 to 9,012 on the sheets W, K7 and billions of samples/.
+ * what it is given, save making and marking, which take 8,484 to 8,788 and 8,676 to 8,980 on the sheets W, K7 and billions of samples/.
  *
  * Pace. Where ewf_evaluate and ewf_mark compose two relations (rules of kind 3), or apply one to a set of states (rules of kind 2), they run
  * the same instructions whatever bits these have; link/pace tests this. How long matching a node with transitions takes (kinds 0 and 1)
@@ -76,10 +77,12 @@ enum ewf_refusal {
     EWF_OTHER_ALPHABET = 28    /* the alphabet given is not the one in the form's head */
 };
 
-/* The lengths that calls ask for, in elements, by T and R. */
+/* The lengths that calls ask for, in elements, by T, R and K. */
 #define EWF_FORM_LENGTH(T, R) (5 + (size_t)(T) + 12 * (size_t)(R))     /* the bytes of a form of T terminals and R rules */
 #define EWF_RELATIONS(R) ((size_t)(R))                 /* the numbers that evaluation asks for */
 #define EWF_COUNTS(R) (2 * (size_t)(R))                /* the numbers that size, label and unfolding ask for */
+#define EWF_TABLE_LENGTH 4096                          /* the bytes of a rule's table, by the blackboard method */
+#define EWF_TABLES(K) (EWF_TABLE_LENGTH * (size_t)(K)) /* the bytes that the blackboard method asks for, for a sheet of K rules */
 #define EWF_RULE_NUMBERS 7                             /* the numbers of a rule that is read */
 #define EWF_CANDIDATES 16                              /* the candidates of a tally, from 0 to 15 */
 #define EWF_TALLY_COUNTS (3 * EWF_CANDIDATES)          /* the counts of a tally: accepted, declined, turned away of each */
@@ -89,6 +92,9 @@ enum ewf_refusal {
 #define EWF_DECLINED(candidate) (3 * (size_t)(candidate) + 1)
 #define EWF_TURNED_AWAY(candidate) (3 * (size_t)(candidate) + 2)
 
+/* Where the byte of rule k stands for the states p1 to p4 at its parameters; 0 for each parameter that the rule does not have. */
+#define EWF_TABLE_BYTE(k, p1, p2, p3, p4) (EWF_TABLES(k) + (size_t)(p1) + 8 * (size_t)(p2) + 64 * (size_t)(p3) + 512 * (size_t)(p4))
+
 /* R, T and the alphabet of a form that was made, or that some call did not refuse. */
 #define EWF_RULES(form) ((size_t)(form)[0] + 256 * (size_t)(form)[1])
 #define EWF_TERMINALS(form) ((size_t)(form)[4])
@@ -96,6 +102,8 @@ enum ewf_refusal {
 
 /* The largest of each. */
 #define EWF_LONGEST_SHEET 1832
+#define EWF_MOST_SHEET_RULES 64                        /* K of a sheet */
+#define EWF_MOST_TABLES EWF_TABLES(EWF_MOST_SHEET_RULES)     /* 262,144 bytes, for the blackboard method */
 #define EWF_MOST_NODES 128                             /* the right-side nodes of a sheet, and the nodes of a tree that is wrapped */
 #define EWF_MOST_TERMINALS 32                          /* T of an alphabet */
 #define EWF_MOST_RULES 2048                            /* R of a form */
@@ -121,6 +129,19 @@ uint8_t ewf_room(const uint8_t *sheet, size_t sheet_length,
 uint8_t ewf_make_form(const uint8_t *sheet, size_t sheet_length,
                       uint8_t *form, size_t form_length,
                       size_t *written);
+
+/* The blackboard method, straight on a sheet: for each rule, whether there is a run for every choice of states at its parameters and root;
+ * and the mask of the states that runs on the sheet's tree end in, which is the first byte of the last rule's table, and the same as of the
+ * sheet's form.
+ * table: EWF_TABLES(K) bytes for a sheet of K rules, EWF_MOST_TABLES at most; afterwards rule k has the EWF_TABLE_LENGTH bytes from
+ * EWF_TABLES(k) on. Byte p1 + 8 p2 + 64 p3 + 512 p4 of these, which EWF_TABLE_BYTE finds, is for the runs on what the rule derives that
+ * enter at its parameters in the states p1 to p4: bit q is set exactly where one of them ends in q. A parameter that is absent from what
+ * the rule derives is free: whichever of the automaton's states it is given, the byte is the same. Bytes are 0 where one of the four is
+ * no state of the automaton, or is above 0 for a parameter that the rule does not have. Later bytes of the slice are kept.
+ * Refused by 1 to 16 (the sheet), 19 (table); each leaves table and mask as they were. */
+uint8_t ewf_blackboard(const uint8_t *sheet, size_t sheet_length,
+                       uint8_t *table, size_t table_length,
+                       uint8_t *mask);
 
 /* The mask of the states that runs on the form's tree end in: bit q for state q.
  * relations: EWF_RELATIONS(R) numbers; afterwards number i is the relation of rule i.

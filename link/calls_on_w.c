@@ -1,5 +1,5 @@
-/* The calls on the sheet W of document 01: how much its mark asks for, its mark, its form, and from the form the mask, the size, each label and the tree;
- * then a call with the alphabet of another lesson. */
+/* The calls on the sheet W of document 01: how much its mark asks for, its mark, the mask by the blackboard method, its form, and from the form the mask,
+ * the size, each label and the tree; then a call with the alphabet of another lesson. */
 #include <inttypes.h>
 #include <stdio.h>
 #include "ewerflint.h"
@@ -17,8 +17,8 @@ static const uint8_t W[58] = {
     0x01, 0x00, 0x00, 0x00, 0xFF, 0xFF,
 };
 
-/* Where W's alphabet and automaton lie, room for its tree, and the candidate that W is marked for. */
-enum { ALPHABET = 12, TERMINALS = 3, AUTOMATON = 32, ROOM = 16, CANDIDATE = 2 };
+/* Where W's alphabet and automaton lie, how many rules it has, room for its tree, and the candidate that W is marked for. */
+enum { ALPHABET = 12, TERMINALS = 3, AUTOMATON = 32, RULES = 3, ROOM = 16, CANDIDATE = 2 };
 
 /* What is lent: the first elements of these. */
 static uint8_t form[EWF_MOST_ASKED_BYTES];
@@ -48,6 +48,21 @@ static int mark_sheet(size_t form_bytes, size_t numbers)
     }
     printf("mark: %s %u, tally of candidate %d: %" PRIu32 " %" PRIu32 " %" PRIu32 "\n", verdict == 1 ? "accepted" : "declined", (unsigned)mask, CANDIDATE,
            tally[EWF_ACCEPTED(CANDIDATE)], tally[EWF_DECLINED(CANDIDATE)], tally[EWF_TURNED_AWAY(CANDIDATE)]);
+    return 0;
+}
+
+/* Prints what W's rules 0, h(h(y1)), and 1, f(h(h(y2)), y1), answer for states at their parameters. */
+static int blackboard(void)
+{
+    static uint8_t table[EWF_TABLES(RULES)];
+    uint8_t mask = 0;
+
+    if (refused("blackboard", ewf_blackboard(W, sizeof W, table, sizeof table, &mask))) {
+        return 1;
+    }
+    printf("blackboard: %u, rule 0 from 0: %u, from 1: %u, rule 1 from 0 and 0: %u, from 0 and 1: %u\n", (unsigned)mask,
+           (unsigned)table[EWF_TABLE_BYTE(0, 0, 0, 0, 0)], (unsigned)table[EWF_TABLE_BYTE(0, 1, 0, 0, 0)],
+           (unsigned)table[EWF_TABLE_BYTE(1, 0, 0, 0, 0)], (unsigned)table[EWF_TABLE_BYTE(1, 0, 1, 0, 0)]);
     return 0;
 }
 
@@ -120,7 +135,7 @@ int main(void)
         return 1;
     }
     printf("room: %zu bytes, %zu numbers\n", form_bytes, numbers);
-    if (mark_sheet(form_bytes, numbers) || refused("make form", ewf_make_form(W, sizeof W, form, form_bytes, &length))) {
+    if (mark_sheet(form_bytes, numbers) || blackboard() || refused("make form", ewf_make_form(W, sizeof W, form, form_bytes, &length))) {
         return 1;
     }
     printf("form: %zu rules, %zu terminals, %zu bytes\n", EWF_RULES(form), EWF_TERMINALS(form), length);

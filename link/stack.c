@@ -29,6 +29,7 @@ static uint8_t sheet[EWF_LONGEST_SHEET];
 static size_t sheet_length;
 static uint8_t written[EWF_MOST_ASKED_BYTES];
 static uint32_t tally[EWF_TALLY_COUNTS];
+static uint8_t table[EWF_MOST_TABLES];
 
 static void require(uint8_t refusal)
 {
@@ -116,6 +117,14 @@ static void *mark(void *unused)
     uint8_t mask;
 
     require(ewf_mark(sheet, sheet_length, written, sizeof written, numbers, EWF_MOST_ASKED_NUMBERS, 0, tally, EWF_TALLY_COUNTS, &verdict, &mask));
+    return unused;
+}
+
+static void *blackboard(void *unused)
+{
+    uint8_t mask;
+
+    require(ewf_blackboard(sheet, sheet_length, table, sizeof table, &mask));
     return unused;
 }
 
@@ -234,8 +243,8 @@ int main(void)
         const char *name;
         void *(*call)(void *);
     } calls[] = {
-        {"room", room}, {"make form", make}, {"mark", mark}, {"evaluate", evaluate}, {"size", size}, {"label", label}, {"unfold", unfold},
-        {"read rule", read_rule}, {"walk, chain", walk_chain}, {"walk, comb", walk_comb}, {"wrap", wrap}, {"practice", practice},
+        {"room", room}, {"make form", make}, {"mark", mark}, {"blackboard", blackboard}, {"evaluate", evaluate}, {"size", size}, {"label", label},
+        {"unfold", unfold}, {"read rule", read_rule}, {"walk, chain", walk_chain}, {"walk, comb", walk_comb}, {"wrap", wrap}, {"practice", practice},
     };
     size_t nothing = taken(empty);
 

@@ -1,12 +1,16 @@
 // The calls on a sheet.
+use blackboard::blackboard;
 use lending::RoomAnswer;
 use lending::room;
 use making::make_form;
 use terms::answers::LengthAnswer;
+use terms::answers::MaskAnswer;
 ghost use mathlib.Core.Path.{_≡_};
 ghost use lib.ListN.{length};
 ghost use Rattle.terms.specs.Check.{sheetRefusal};
-ghost use Rattle.terms.specs.Calls.{rulesAsked, formAsked, makingRefusal};
+ghost use Rattle.terms.specs.Sheet.{sheetMask};
+ghost use Rattle.terms.specs.Calls.{lentAfter, rulesAsked, formAsked, makingRefusal};
+ghost use Rattle.blackboard_terms.specs.Blackboard.{tablesOf, blackboardRefusal};
 ghost use Rattle.making.specs.Making.{formOf, formLeft, FormMade};
 ghost use Rattle.capi.specs.Result.{resultAfter};
 
@@ -39,6 +43,22 @@ pub extern "C" fn ewf_make_form(sheet: &[u8], form: &mut [u8], written: &mut usi
         LengthAnswer::Refused(n) => n,
         LengthAnswer::Written(n) => {
             *written = n;
+            0
+        }
+    }
+}
+
+// The tables of a sheet's rules by the blackboard method, and the mask by them.
+#[no_mangle]
+pub extern "C" fn ewf_blackboard(sheet: &[u8], table: &mut [u8], mask: &mut u8) -> u8
+    ensures refusal { λ r. ⌜ r ≡ blackboardRefusal (now (sheet .entry)) (length (now (table .entry))) ⌝ }
+    ensures table { λ _. ⌜ now (table .exit) ≡ lentAfter (blackboardRefusal (now (sheet .entry)) (length (now (table .entry)))) (tablesOf (now (sheet .entry))) (now (table .entry)) ⌝ }
+    ensures mask { λ _. ⌜ now (mask .exit) ≡ resultAfter (blackboardRefusal (now (sheet .entry)) (length (now (table .entry)))) (sheetMask (now (sheet .entry))) (now (mask .entry)) ⌝ }
+{
+    match blackboard(sheet, table) {
+        MaskAnswer::Refused(n) => n,
+        MaskAnswer::Mask(states) => {
+            *mask = states;
             0
         }
     }
