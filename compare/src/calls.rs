@@ -1,4 +1,4 @@
-//! The eleven calls, in the shape of the C interface: each returns 0 or a refusal's number, and
+//! The twelve calls, in the shape of the C interface: each returns 0 or a refusal's number, and
 //! results go through the `&mut` arguments, which a refusal leaves as they were.
 
 /// The calls whose results the documents fix.
@@ -66,6 +66,9 @@ pub trait FixedCalls {
 
     /// How many bytes making and marking of the sheet ask for, and how many numbers marking asks for.
     fn room(&self, sheet: &[u8], form_bytes: &mut usize, numbers: &mut usize) -> u8;
+
+    /// The tables of the sheet's rules, and the mask by them.
+    fn blackboard(&self, sheet: &[u8], table: &mut [u8], mask: &mut u8) -> u8;
 }
 
 /// All calls. In these two the form is free.

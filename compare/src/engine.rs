@@ -97,6 +97,13 @@ unsafe extern "C" {
         form_bytes: *mut usize,
         numbers: *mut usize,
     ) -> u8;
+    fn ewf_blackboard(
+        sheet: *const u8,
+        sheet_length: usize,
+        table: *mut u8,
+        table_length: usize,
+        mask: *mut u8,
+    ) -> u8;
     fn ewf_mark(
         sheet: *const u8,
         sheet_length: usize,
@@ -218,6 +225,10 @@ impl FixedCalls for Ewerflint {
 
     fn room(&self, sheet: &[u8], form_bytes: &mut usize, numbers: &mut usize) -> u8 {
         call!(ewf_room(sheet; ; ; ; form_bytes, numbers))
+    }
+
+    fn blackboard(&self, sheet: &[u8], table: &mut [u8], mask: &mut u8) -> u8 {
+        call!(ewf_blackboard(sheet; table; ; ; mask))
     }
 }
 

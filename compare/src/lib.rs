@@ -1,5 +1,5 @@
-//! A comparison of the engine with an implementation written from document 01 and,
-//! of document 02 alone.
+//! A comparison of the engine with an implementation written from document 01 and and
+//! of document 02 alone.
 
 #![deny(unsafe_code)]
 

@@ -1,10 +1,12 @@
 //! The table of times.
 
+use super::lesson;
 use super::practice;
 use super::subjects::Subject;
 use super::timing::best;
 use crate::calls::Engine;
 use crate::idiomatic::Idiomatic;
+use crate::reference::blackboard::TABLE;
 use crate::reference::facts::Facts;
 use crate::reference::sheet::Sheet;
 use crate::reference::tally::COUNTS;
@@ -23,6 +25,7 @@ enum Call {
     MakeForm,
     Room,
     Evaluate,
+    Blackboard,
     Label,
     Unfold,
     Walk,
@@ -35,6 +38,7 @@ impl Call {
             Call::MakeForm => "make form",
             Call::Room => "room",
             Call::Evaluate => "evaluate",
+            Call::Blackboard => "blackboard",
             Call::Label => "label",
             Call::Unfold => "unfold",
             Call::Walk => "walk",
@@ -50,32 +54,48 @@ struct Prepared {
 }
 
 /// One line for each sheet and call, and one for a practice sheet: microseconds, and the engine's
-/// time over the other way's.
+/// time over the other way's. Behind it comes the table for a lesson.
 pub fn print(engine: &dyn Engine, subjects: &[Subject]) {
     println!(
         "{:16} {:10} {:>12} {:>12} {:>7} {:>14} {:>9}",
         "sheet", "call", "engine us", "idiomatic us", "ratio", "theorem 1 us", "ratio"
     );
-    for subject in subjects {
-        let prepared = prepare(engine, subject);
-        let mut calls = vec![Call::Mark, Call::MakeForm, Call::Room, Call::Evaluate, Call::Label];
-        if prepared.facts.whole.length == 4096 {
-            calls.extend([Call::Unfold, Call::Walk]);
-        }
-        for call in calls {
-            println!("{:16} {}", subject.name, line(engine, &prepared, call));
-        }
-    }
+    let rows: Vec<_> = subjects.iter().map(|subject| print_sheet(engine, subject)).collect();
     let (_, columns) = beside(engine, "practice", practice::time);
     println!("{:16} {columns}", practice::NAME);
+    println!();
+    lesson::print(&rows);
 }
 
-fn line(engine: &dyn Engine, prepared: &Prepared, call: Call) -> String {
+/// Prints the lines of a sheet. What they say of the engine is its row in the table for a lesson.
+fn print_sheet(engine: &dyn Engine, subject: &Subject) -> lesson::Row {
+    let prepared = prepare(engine, subject);
+    let print = |call| {
+        let (ours, line) = line(engine, &prepared, call);
+        println!("{:16} {line}", subject.name);
+        ours
+    };
+    let mark = print(Call::Mark);
+    let make_form = print(Call::MakeForm);
+    print(Call::Room);
+    let evaluate = print(Call::Evaluate);
+    let blackboard = print(Call::Blackboard);
+    print(Call::Label);
+    if prepared.facts.whole.length == 4096 {
+        print(Call::Unfold);
+        print(Call::Walk);
+    }
+    let rules = prepared.facts.sheet.rules.len();
+    lesson::Row { sheet: subject.name, rules, make_form, evaluate, mark, blackboard }
+}
+
+/// The engine's time, and the columns of a line.
+fn line(engine: &dyn Engine, prepared: &Prepared, call: Call) -> (f64, String) {
     let (ours, mut line) = beside(engine, call.name(), |engine| time(engine, prepared, call));
     if let Some(other) = theorem_time(prepared, call) {
         line += &format!(" {other:14.3} {:9.4}", ours / other);
     }
-    line
+    (ours, line)
 }
 
 /// The engine's time, and the columns of it beside idiomatic Rust.
@@ -103,6 +123,7 @@ fn time(engine: &dyn Engine, prepared: &Prepared, call: Call) -> f64 {
     let (alphabet, automaton) = (&facts.sheet.alphabet_body, &facts.sheet.automaton_body);
     let mut bytes = vec![0; facts.sheet.form_need().max(4096)];
     let mut numbers = vec![0; facts.sheet.relations_need().max(form.len())];
+    let mut tables = vec![0; TABLE * facts.sheet.rules.len()];
     let mut tally = [0; COUNTS];
     let (mut length, mut asked, mut verdict, mut mask) = (0, 0, 0, 0);
     let tree = facts.tree.as_deref().unwrap_or_default();
@@ -121,12 +142,13 @@ fn time(engine: &dyn Engine, prepared: &Prepared, call: Call) -> f64 {
             Call::MakeForm => engine.make_form(sheet, &mut bytes, &mut length),
             Call::Room => engine.room(sheet, &mut length, &mut asked),
             Call::Evaluate => engine.evaluate(alphabet, automaton, form, &mut numbers, &mut mask),
+            Call::Blackboard => engine.blackboard(sheet, &mut tables, &mut mask),
             Call::Label => engine.label(alphabet, form, position, &mut numbers, &mut mask),
             Call::Unfold => engine.unfold(alphabet, form, &mut numbers, &mut bytes, &mut length),
             Call::Walk => engine.walk(alphabet, automaton, tree, &mut bytes, &mut mask),
         };
         assert_eq!(code, 0);
-        black_box((&bytes, &numbers, &tally, length, asked, verdict, mask));
+        black_box((&bytes, &numbers, &tables, &tally, length, asked, verdict, mask));
     })
 }
 
@@ -134,7 +156,7 @@ fn time(engine: &dyn Engine, prepared: &Prepared, call: Call) -> f64 {
 fn theorem_time(prepared: &Prepared, call: Call) -> Option<f64> {
     let read = &prepared.facts.sheet;
     match call {
-        Call::Mark => Some(best(|| {
+        Call::Mark | Call::Blackboard => Some(best(|| {
             let sheet = Sheet::read(black_box(&prepared.sheet)).expect("a lawful sheet");
             black_box(theorem::mask(&sheet.automaton, &sheet.rules));
         })),

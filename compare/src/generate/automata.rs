@@ -37,6 +37,11 @@ pub fn automaton_of(random: &mut Random, alphabet: &[u8], states: u8) -> Vec<u8>
 
 fn transition(random: &mut Random, alphabet: &[u8], states: u8) -> [u8; 6] {
     let terminal = random.below(alphabet.len());
+    transition_of(random, alphabet, terminal, states)
+}
+
+/// A transition of this terminal between any states.
+pub fn transition_of(random: &mut Random, alphabet: &[u8], terminal: usize, states: u8) -> [u8; 6] {
     let mut row = [0xFF; 6];
     row[0] = terminal as u8;
     for place in &mut row[1..2 + usize::from(alphabet[terminal])] {

@@ -2,6 +2,7 @@
 
 pub mod alphabets;
 pub mod automata;
+pub mod boards;
 pub mod bytes;
 pub mod damage;
 pub mod dropped;

@@ -1,5 +1,6 @@
 //! Lawful sheets of every shape.
 
+use super::boards;
 use super::dropped;
 use super::mixed::{Kind, mixed};
 use super::plan::Plan;
@@ -11,12 +12,13 @@ use super::wide_shapes;
 
 /// A lawful sheet, in parts. In about half of them rules leave out parameters or are one alone.
 pub fn plan(random: &mut Random) -> Plan {
-    match random.below(18) {
+    match random.below(19) {
         0..=7 => exact(random),
         8..=10 => mixed(random, Kind::Wide),
         11..=12 => thinned(random),
         13..=15 => wide_shapes::shape(random),
-        _ => sums::shape(random),
+        16..=17 => sums::shape(random),
+        _ => boards::shape(random),
     }
 }
 

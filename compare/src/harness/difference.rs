@@ -50,6 +50,12 @@ impl Difference {
         Err(Box::new(Difference { call, inputs: inputs(), before: before.clone(), findings }))
     }
 
+    /// The same with one more thing told.
+    pub fn and(mut self: Box<Self>, finding: String) -> Box<Difference> {
+        self.findings.push(finding);
+        self
+    }
+
     pub fn call(&self) -> &'static str {
         self.call
     }

@@ -1,5 +1,6 @@
 //! Puts generated inputs through an engine's calls and compares with the reference.
 
+pub mod blackboard;
 pub mod case;
 pub mod checker;
 pub mod difference;
@@ -11,6 +12,7 @@ pub mod making;
 pub mod marking;
 pub mod named;
 pub mod named_alphabets;
+pub mod named_blackboard;
 pub mod named_markings;
 pub mod named_practice;
 pub mod named_room;

@@ -51,6 +51,7 @@ impl Checker<'_> {
         }
         self.named_wide(random)?;
         self.named_room(random)?;
+        self.named_blackboard(random)?;
         self.named_markings(random, &w)?;
         self.named_form_calls(random, &w)?;
         self.named_alphabets(random)?;

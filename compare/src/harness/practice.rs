@@ -40,7 +40,9 @@ impl Checker<'_> {
         self.room(random, sheet)?;
         let form_length = enough(random, known.sheet.form_need());
         let made = self.make_form(sheet, &facts, &Lent::new(random, form_length, 0))?;
-        self.unfolds(random, &described, &made.unwrap_or_default())
+        let form = made.unwrap_or_default();
+        self.unfolds(random, &described, &form)?;
+        self.blackboards(random, sheet, &facts, Some(&form))
     }
 
     /// What the slice held before must not matter.

@@ -23,12 +23,15 @@ impl Checker<'_> {
             Err(_) => *random.pick(&[0, 3, 100, LONGEST_FORM]),
         };
         self.make_form(sheet, &facts, &Lent::new(random, length, 0))?;
+        let mut form = None;
         if let (Ok(known), Some(asked)) = (&facts, asked) {
-            let form = self.form_of(random, sheet, &facts, known)?;
-            self.follow(random, known, &form)?;
-            self.lent_as_asked(random, sheet, &facts, &form, asked)?;
+            let made = self.form_of(random, sheet, &facts, known)?;
+            self.follow(random, known, &made)?;
+            self.lent_as_asked(random, sheet, &facts, &made, asked)?;
+            form = Some(made);
         }
-        self.markings(random, sheet, &facts)
+        self.markings(random, sheet, &facts)?;
+        self.blackboards(random, sheet, &facts, form.as_deref())
     }
 
     /// The form made of a lawful sheet, twice: what the slice held before must not matter.

@@ -1,7 +1,8 @@
-//! The eleven calls over the parts of this module.
+//! The twelve calls over the parts of this module.
 
 use super::alphabet::Alphabet;
 use super::automaton::Automaton;
+use super::blackboard::{TABLE, blackboard};
 use super::counts::{counts, label, lend};
 use super::evaluation::evaluate;
 use super::form::{Form, fields};
@@ -103,6 +104,15 @@ fn asked(sheet: &[u8]) -> Answer<(usize, usize)> {
     Ok((sheet.form_need(), sheet.most_rules))
 }
 
+/// The mask by the tables of the rules.
+fn tabled(sheet: &[u8], table: &mut [u8]) -> Answer<u8> {
+    let sheet = Sheet::read(sheet)?;
+    if table.len() < TABLE * sheet.rules.len() {
+        return Err(Refusal(19));
+    }
+    Ok(blackboard(&sheet, table))
+}
+
 impl FixedCalls for Idiomatic {
     fn evaluate(
         &self,
@@ -181,6 +191,10 @@ impl FixedCalls for Idiomatic {
     fn room(&self, sheet: &[u8], form_bytes: &mut usize, numbers: &mut usize) -> u8 {
         let answer = asked(sheet).inspect(|(bytes, _)| *form_bytes = *bytes);
         settle(answer.map(|(_, most_rules)| most_rules), numbers)
+    }
+
+    fn blackboard(&self, sheet: &[u8], table: &mut [u8], mask: &mut u8) -> u8 {
+        settle(tabled(sheet, table), mask)
     }
 }
 

@@ -4,7 +4,7 @@ use super::automaton::Automaton;
 use super::form::{Form, FormRule};
 
 /// Bit 0 of each lane.
-const LANES: u64 = 0x0101_0101_0101_0101;
+pub const LANES: u64 = 0x0101_0101_0101_0101;
 
 /// Each set of states with bit i moved to bit 8i.
 const SPREAD: [u64; 256] = spread();
@@ -56,7 +56,7 @@ fn sets(slots: &[u16; 4], lower: &[u64]) -> [u8; 4] {
 }
 
 /// The union of the relation's lanes whose state is in the set.
-fn apply(relation: u64, set: u8) -> u64 {
+pub fn apply(relation: u64, set: u8) -> u64 {
     let mut lanes = relation & (SPREAD[usize::from(set)] * 0xFF);
     lanes |= lanes >> 32;
     lanes |= lanes >> 16;

@@ -3,6 +3,7 @@
 
 mod alphabet;
 mod automaton;
+mod blackboard;
 mod calls;
 mod cleaning;
 mod counts;

@@ -15,6 +15,8 @@ pub struct Rule<'a> {
 pub struct Sheet<'a> {
     pub alphabet: Alphabet<'a>,
     pub rules: Vec<Rule<'a>>,
+    /// The number of states.
+    pub states: u8,
     pub finals: u8,
     /// The transitions as written, which only marking groups.
     pub transitions: &'a [[u8; 6]],
@@ -42,7 +44,15 @@ impl<'a> Sheet<'a> {
             return Err(Refusal(13));
         }
         let (finals, transitions) = Automaton::check(alphabet, automaton)?;
-        Ok(Sheet { alphabet, rules, finals, transitions, most_rules, is_clean })
+        Ok(Sheet {
+            alphabet,
+            rules,
+            states: automaton[0],
+            finals,
+            transitions,
+            most_rules,
+            is_clean,
+        })
     }
 
     /// The bytes that making the form asks for.

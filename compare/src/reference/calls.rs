@@ -4,6 +4,7 @@
 
 use super::alphabet::Alphabet;
 use super::automaton::Automaton;
+use super::blackboard::Blackboard;
 use super::counts::{self, Count};
 use super::form::{self, Form};
 use super::label;
@@ -107,6 +108,11 @@ pub struct Room {
 pub fn room(sheet: &[u8]) -> Answer<Room> {
     let sheet = Sheet::read(sheet)?;
     Ok(Room { form_bytes: sheet.form_need(), numbers: sheet.relations_need() })
+}
+
+/// The mask of the sheet by its rules' tables: refusals 1 to 16, then 19.
+pub fn blackboard(sheet: &[u8], table: &mut [u8]) -> Answer<u8> {
+    Blackboard::of(&Sheet::read(sheet)?).put(table)
 }
 
 /// A sheet of these bodies, with the contents that join them.

@@ -1,4 +1,4 @@
-//! The sheet's tree, by substitution; for small trees.
+//! The sheet's tree and what other rules derive, by substitution; for small trees.
 
 use super::rules::Rule;
 use super::term::Term;
@@ -6,8 +6,12 @@ use super::tree::Tree;
 
 /// What the start becomes.
 pub fn tree(rules: &[Rule]) -> Tree {
-    let mut derivation = Derivation { rules, values: vec![None; rules.len()] };
-    finished(derivation.of_rule(rules.len() - 1))
+    finished(open_tree(rules, rules.len() - 1))
+}
+
+/// What a rule becomes: a tree with an open place for each of its parameters that is left.
+pub fn open_tree(rules: &[Rule], rule: usize) -> Term {
+    Derivation { rules, values: vec![None; rules.len()] }.of_rule(rule)
 }
 
 /// What rules become: terms of terminals and parameters. A rule is worked out when a call that

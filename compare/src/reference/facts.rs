@@ -1,10 +1,10 @@
 //! All that the reference knows of a sheet, worked out without a form.
 
+use super::blackboard::Blackboard;
 use super::derivation;
 use super::fingerprint::Fingerprint;
 use super::profile::Profiles;
 use super::sheet::Sheet;
-use super::theorem;
 use crate::refusal::Answer;
 
 /// Trees up to this size are written out in full.
@@ -19,6 +19,7 @@ pub struct Facts {
     /// Some positions all over the tree and the terminals there.
     pub labels: Vec<(u64, u8)>,
     pub mask: u8,
+    pub blackboard: Blackboard,
 }
 
 impl Facts {
@@ -28,9 +29,10 @@ impl Facts {
         let profiles = Profiles::of(&sheet.rules);
         let whole = profiles.whole();
         let labels = positions(whole.length).map(|at| (at, profiles.label(at))).collect();
-        let mask = theorem::mask(&sheet.automaton, &sheet.rules);
+        let blackboard = Blackboard::of(&sheet);
+        let mask = blackboard.mask;
         let tree = (whole.length <= SMALL).then(|| written_out(&sheet, whole, mask));
-        Ok(Facts { sheet, whole, tree, labels, mask })
+        Ok(Facts { sheet, whole, tree, labels, mask, blackboard })
     }
 
     pub fn accepted(&self) -> bool {

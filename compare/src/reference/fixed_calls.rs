@@ -85,4 +85,7 @@ impl FixedCalls for Reference {
         let answer = calls::room(sheet).inspect(|room| *form_bytes = room.form_bytes);
         settle(answer.map(|room| room.numbers), numbers)
     }
+    fn blackboard(&self, sheet: &[u8], table: &mut [u8], mask: &mut u8) -> u8 {
+        settle(calls::blackboard(sheet, table), mask)
+    }
 }

@@ -1,6 +1,6 @@
-//! The mask straight from the grammar: source document 003, Theorem 1. For each rule and each
-//! choice of states at its parameters, the states in which a run may end at its root. A parameter
-//! that does not stand in what the rule derives is free: no run is asked of its argument.
+//! Source document 003, Theorem 1, straight on the grammar. For each rule and each choice of states
+//! at its parameters, the states in which a run may end at its root. A parameter that does not
+//! stand in what the rule derives is free: no run is asked of its argument.
 
 use super::automaton::{Automaton, has};
 use super::presence::Presence;
@@ -9,19 +9,36 @@ use super::term::Term;
 
 /// The sets of root states of one rule, for the tuples of parameter states counted with the
 /// first parameter's state as the lowest digit.
-type Table = Vec<u8>;
+pub type Table = Vec<u8>;
 
 /// State 0 alone. It stands for all states where the state does not matter.
 const FREE: u8 = 1;
 
 /// The mask of the sheet's tree.
 pub fn mask(automaton: &Automaton, rules: &[Rule]) -> u8 {
+    mask_by(&tables(automaton, rules))
+}
+
+/// The same where the tables are known: the start has one tuple, of no states.
+pub fn mask_by(tables: &[Table]) -> u8 {
+    tables.last().expect("a sheet has a rule")[0]
+}
+
+/// The tables of all rules.
+pub fn tables(automaton: &Automaton, rules: &[Rule]) -> Vec<Table> {
     let mut method = Method { automaton, presence: Presence::of(rules), tables: Vec::new() };
     for rule in rules {
         let table = method.table(rule);
         method.tables.push(table);
     }
-    method.tables.last().expect("a sheet has a rule")[0]
+    method.tables
+}
+
+/// The states at the parameters in the tuple of this number.
+pub fn entered(states: u8, rank: usize, tuple: usize) -> Vec<u8> {
+    let states = usize::from(states);
+    let digit = |place: usize| (tuple / states.pow(place as u32) % states) as u8;
+    (0..rank).map(digit).collect()
 }
 
 /// The tables of the rules so far.
@@ -33,11 +50,10 @@ struct Method<'s> {
 
 impl Method<'_> {
     fn table(&self, rule: &Rule) -> Table {
-        let states = usize::from(self.automaton.states);
-        let tuples = states.pow(rule.rank as u32);
+        let states = self.automaton.states;
+        let tuples = usize::from(states).pow(rule.rank as u32);
         let entry = |tuple: usize| {
-            let digit = |place: usize| (tuple / states.pow(place as u32) % states) as u8;
-            let entered: Vec<u8> = (0..rule.rank).map(digit).collect();
+            let entered = entered(states, rule.rank, tuple);
             self.root_states(&rule.right, &entered)
         };
         (0..tuples).map(entry).collect()

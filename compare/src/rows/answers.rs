@@ -16,6 +16,7 @@ pub fn answer(call: &Call, stored: &str) -> Result<String, String> {
         }
         Call::Certify { sheet, rooms } => free::certify(sheet, rooms, stored)?,
         Call::Room { sheet } => fixed::room(sheet),
+        Call::Blackboard { sheet, room } => fixed::blackboard(sheet, *room),
         Call::Rule { alphabet, form, number } => fixed::rule(alphabet, form, *number),
         Call::Rules { alphabet, form } => fixed::rules(alphabet, form),
         Call::Size { alphabet, form, numbers } => fixed::size(alphabet, form, *numbers),

@@ -10,6 +10,7 @@ pub enum Call {
     Mark { sheet: Vec<u8>, tally: Tally, room: usize, numbers: usize, candidate: usize },
     Certify { sheet: Vec<u8>, rooms: Rooms },
     Room { sheet: Vec<u8> },
+    Blackboard { sheet: Vec<u8>, room: usize },
     Rule { alphabet: Vec<u8>, form: Vec<u8>, number: usize },
     Rules { alphabet: Vec<u8>, form: Vec<u8> },
     Size { alphabet: Vec<u8>, form: Vec<u8>, numbers: usize },
@@ -48,7 +49,7 @@ impl Call {
     pub fn read(text: &str) -> Option<Call> {
         let mut fields = Fields::of(text.strip_prefix(' ')?);
         let call = match fields.word()? {
-            name @ ("line" | "make" | "mark" | "certify" | "room") => {
+            name @ ("line" | "make" | "mark" | "certify" | "room" | "blackboard") => {
                 sheet_call(name, &mut fields)?
             }
             name @ ("rule" | "rules" | "size" | "label" | "unfold") => {
@@ -71,7 +72,8 @@ impl Call {
             | Call::Make { sheet, .. }
             | Call::Mark { sheet, .. }
             | Call::Certify { sheet, .. }
-            | Call::Room { sheet } => Some(sheet),
+            | Call::Room { sheet }
+            | Call::Blackboard { sheet, .. } => Some(sheet),
             _ => None,
         }
     }
@@ -90,7 +92,8 @@ fn sheet_call(name: &str, fields: &mut Fields) -> Option<Call> {
             candidate: fields.candidate()?,
         },
         "certify" => Call::Certify { sheet, rooms: Rooms::read(fields)? },
-        _ => Call::Room { sheet },
+        "room" => Call::Room { sheet },
+        _ => Call::Blackboard { sheet, room: fields.room()? },
     })
 }
 

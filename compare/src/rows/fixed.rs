@@ -8,6 +8,11 @@ pub fn room(sheet: &[u8]) -> String {
     told(calls::room(sheet), room_text)
 }
 
+pub fn blackboard(sheet: &[u8], room: usize) -> String {
+    let mut table = lent(room);
+    said("mask", calls::blackboard(sheet, &mut table)) + &slice("table", &table)
+}
+
 pub fn rule(alphabet: &[u8], form: &[u8], number: usize) -> String {
     told(calls::read_rule(alphabet, form, number), rule_text)
 }

@@ -1,6 +1,7 @@
 //! An engine with one fault.
 
 use crate::alphabets::{OnForm, fields_one_off};
+use crate::blackboard::Board;
 use crate::marking::Call;
 use crate::practice::Practice;
 use crate::sums::{Asked, Sum, made_by};
@@ -135,6 +136,7 @@ pub enum Fault {
     RoomAddsToWhatWasHeld,
     RoomReadsNoAutomaton,
     RoomReadsAutomatonFirst,
+    WrongBoard(Board),
 }
 
 pub struct Planted {
@@ -430,6 +432,13 @@ impl FixedCalls for Planted {
 
     fn room(&self, sheet: &[u8], form_bytes: &mut usize, numbers: &mut usize) -> u8 {
         self.room_told(sheet, form_bytes, numbers)
+    }
+
+    fn blackboard(&self, sheet: &[u8], table: &mut [u8], mask: &mut u8) -> u8 {
+        match self.fault {
+            Fault::WrongBoard(board) => board.put(sheet, table, mask),
+            _ => Idiomatic.blackboard(sheet, table, mask),
+        }
     }
 }
 

@@ -1,6 +1,7 @@
 //! The harness finds planted faults: each engine here is right but for one thing.
 
 mod alphabets;
+mod blackboard;
 mod composing;
 mod engine;
 mod marking;
@@ -8,6 +9,7 @@ mod practice;
 mod sums;
 mod wide;
 
+use blackboard::BOARDS;
 use compare::harness::run::{run_generated, run_named};
 use engine::{Fault, Planted};
 use sums::{Asked, SUMS};
@@ -187,6 +189,21 @@ fn the_named_examples_alone_find_every_wrong_sum() {
 #[test]
 fn every_planted_fault_of_the_room_told_is_found() {
     found_with_words(&ROOM_FAULTS);
+}
+
+#[test]
+fn every_planted_fault_of_the_blackboard_is_found() {
+    found_with_words(&BOARDS.map(|(board, words)| (Fault::WrongBoard(board), "blackboard", words)));
+}
+
+#[test]
+fn the_named_examples_alone_find_every_fault_of_the_blackboard() {
+    for (board, words) in BOARDS {
+        let difference = run_named(&Planted::new(Fault::WrongBoard(board)), 5).err();
+        let difference = difference.unwrap_or_else(|| panic!("{board:?} was not found"));
+        assert_eq!(difference.call(), "blackboard", "{board:?}");
+        assert!(difference.to_string().contains(words), "{board:?}");
+    }
 }
 
 #[test]

@@ -19,7 +19,7 @@ fn the_sample_has_every_call() {
     let (input, output) = sample();
     let found = differences(&input, &output);
     assert!(found.is_empty(), "{}", found.join("\n"));
-    assert_eq!(line::count(&input), 67);
+    assert_eq!(line::count(&input), 73);
 }
 
 /// What is found after the first such text behind the row's name was changed in the output.
@@ -52,6 +52,10 @@ fn a_changed_answer_is_found() {
     planted("asked", "asked 212 17", "asked 212 6");
     planted("asked", "asked 212 17", "asked 17 212");
     planted("none asked", "refused 1", "asked 0 0");
+    planted("board", "mask 1", "mask 0");
+    planted("dropped", "mask 1", "mask 0");
+    planted("short board", "refused 19", "refused 17");
+    planted("no board", "refused 1", "refused 19");
     planted("even", "written 30", "written 31");
     planted("27", "refused 27", "refused 14");
     planted("28", "refused 28", "refused 18");
@@ -65,6 +69,10 @@ fn a_changed_slice_is_found() {
     planted("certified", "counts 1 0", "counts 1 1");
     planted("20 h", "21*00", "20*00");
     planted("25", "; form 4 kept", "; form 00, 3 kept");
+    planted("board", "01 02 4094*00", "03 4095*00");
+    planted("board", "01 02 4094*00", "01 02 9*00 01 4084*00");
+    planted("board", "2 kept", "1 kept");
+    planted("short board", "; table 12287 kept", "; table 4096*00, 8191 kept");
     planted("odd", "40 80 00", "00 40 80");
     planted("28", "; counts 12 kept", "; counts 1, 11 kept");
     planted("24 of practice", "; sheet 29 kept", "; sheet 0c, 28 kept");
@@ -93,7 +101,7 @@ fn a_line_too_few_or_too_many_is_found() {
     for missing in 0..lines.len() {
         let left = [&lines[..missing], &lines[missing + 1..]].concat().join("\n");
         let found = differences(&input, &left);
-        assert!(found[0].contains("expected 70 lines\nfound    69"), "{}", found[0]);
+        assert!(found[0].contains("expected 76 lines\nfound    75"), "{}", found[0]);
     }
     assert_eq!(differences(&input, &format!("{output}more\n")).len(), 1);
     assert_eq!(differences(&input, output.trim_end()).len(), 1);

@@ -41,7 +41,7 @@ const NOBODY: &str = "000000000000000000000000";
 const HEADINGS: [(&str, &str); 3] =
     [("# A heading: line 00", "# A heading: line 00"), ("", ""), ("#", "#")];
 
-const SHEET_CALLS: [(&str, &str); 13] = [
+const SHEET_CALLS: [(&str, &str); 17] = [
     ("K1 W: line $w", "K1 W: accepted 1 7"),
     (": line $contents+$alphabet+$rules+0202+$transitions", ": declined 1 7"),
     ("empty: line -", "empty: refused 1"),
@@ -52,6 +52,16 @@ const SHEET_CALLS: [(&str, &str); 13] = [
         "65 rules asked: refused 6",
     ),
     ("none asked: room -", "none asked: refused 1"),
+    (
+        "board: blackboard $w 12290",
+        "board: mask 1; table 01 02 4094*00 01 4095*00 01 4095*00, 2 kept",
+    ),
+    ("short board: blackboard $w 12287", "short board: refused 19; table 12287 kept"),
+    ("no board: blackboard - 0", "no board: refused 1; table 0 kept"),
+    (
+        "dropped: blackboard 0C0003000F00080017000800+$alphabet+0101000003400200+01010000FFFFFFFF 8192",
+        "dropped: mask 1; table 01 4095*00 01 4095*00, 0 kept",
+    ),
     ("made: make $w 216", "made: written 80; $made, 136 kept"),
     ("17: make $w 211", "17: refused 17; form 211 kept"),
     (
@@ -170,7 +180,7 @@ const STEPS: [(&str, &str); 7] = [
     ("nobody and no count: accept - 256", "nobody and no count: refused 26, tally"),
 ];
 
-const UNREADABLE: [(&str, &str); 12] = [
+const UNREADABLE: [(&str, &str); 14] = [
     ("half a byte: line 0", "half a byte: unreadable"),
     ("small letters: line 0c", "small letters: unreadable"),
     ("no such call: lines 00", "no such call: unreadable"),
@@ -178,6 +188,8 @@ const UNREADABLE: [(&str, &str); 12] = [
     ("too many: line 00 00", "too many: unreadable"),
     ("no sheet: room", "no sheet: unreadable"),
     ("a room beside the sheet: room 00 212", "a room beside the sheet: unreadable"),
+    ("no room for a board: blackboard 00", "no room for a board: unreadable"),
+    ("two rooms for a board: blackboard 00 1 2", "two rooms for a board: unreadable"),
     ("no number: accept 03 x", "no number: unreadable"),
     ("three counts: accept 3 1 2", "three counts: unreadable"),
     ("no room: practice 0100 0 1", "no room: unreadable"),

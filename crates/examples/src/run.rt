@@ -1,4 +1,5 @@
 // Running a row that was read: its call is lent a slice of bytes and one of numbers, which are printed behind the answer.
+use blackboard::blackboard;
 use counted_marking::mark::mark;
 use evaluation::evaluate::evaluate;
 use labelling::label::label;
@@ -27,6 +28,7 @@ use rows::lend::MOST_NUMBERS;
 use rows::lend::NUMBER;
 use rows::lend::within;
 use rows::names::ACCEPT;
+use rows::names::BLACKBOARD;
 use rows::names::CERTIFY;
 use rows::names::DECLINE;
 use rows::names::EVALUATE;
@@ -78,7 +80,7 @@ fn step(call: usize, tally: Tally, candidate: usize) -> Step {
 // The length of the slice of bytes that a call is lent, which is one of the fields of its row.
 fn room_of(call: usize, n: [usize; 9]) -> usize {
     match call {
-        MAKE | CERTIFY => n[3],
+        MAKE | CERTIFY | BLACKBOARD => n[3],
         MARK => n[4],
         UNFOLD | WALK | WRAP | PRACTICE => n[5],
         _ => 0,
@@ -101,6 +103,7 @@ fn name_of_bytes(call: usize) -> usize {
         UNFOLD => words::TREE,
         WALK => words::MASKS,
         WRAP | PRACTICE => words::SHEET,
+        BLACKBOARD => words::TABLE,
         _ => words::NOTHING,
     }
 }
@@ -131,6 +134,7 @@ fn answer(
 ) {
     match call {
         ROOM => say_room(room(a)),
+        BLACKBOARD => say_mask(blackboard(a, bytes)),
         MAKE => say_length(make_form(a, bytes)),
         MARK => say_marking(mark(a, bytes, numbers, n[6], tally_of(b))),
         CERTIFY => certify_into(a, bytes, numbers, n),

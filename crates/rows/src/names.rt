@@ -1,4 +1,4 @@
-// The calls by their names, and the fields that each takes. A name is a number that has a byte for each letter; of nine letters it has the last eight.
+// The calls by their names, and the fields that each takes. A name is a number that has a byte for each letter; of more than eight letters it has the last eight.
 
 pub const LINE: usize = 0x6C69_6E65;
 
@@ -34,13 +34,15 @@ pub const WRAP: usize = 0x7772_6170;
 
 pub const PRACTICE: usize = 0x7072_6163_7469_6365;
 
+pub const BLACKBOARD: usize = 0x6163_6B62_6F61_7264;
+
 // What is no call.
 pub const NONE: usize = 0;
 
 // The first field of a row that is no byte string. The call is field 1.
 pub fn first_number(call: usize) -> usize {
     match call {
-        LINE | ROOM | MAKE | CERTIFY | ACCEPT | DECLINE | TURN_AWAY | PRACTICE => 3,
+        LINE | ROOM | MAKE | CERTIFY | ACCEPT | DECLINE | TURN_AWAY | PRACTICE | BLACKBOARD => 3,
         MARK | RULE | RULES | SIZE | LABEL | UNFOLD => 4,
         EVALUATE | WALK | WRAP => 5,
         _ => 2,
@@ -51,7 +53,7 @@ pub fn first_number(call: usize) -> usize {
 pub fn fields_of(call: usize) -> usize {
     match call {
         LINE | ROOM => 3,
-        MAKE | RULES | ACCEPT | DECLINE | TURN_AWAY => 4,
+        MAKE | RULES | ACCEPT | DECLINE | TURN_AWAY | BLACKBOARD => 4,
         RULE | SIZE => 5,
         EVALUATE | LABEL | UNFOLD | WALK | WRAP | PRACTICE => 6,
         MARK => 7,

@@ -39,11 +39,13 @@ pub const SHEET: usize = 17;
 
 pub const ASKED: usize = 18;
 
+pub const TABLE: usize = 19;
+
 // No word.
-pub const NOTHING: usize = 19;
+pub const NOTHING: usize = 20;
 
 // How many words there are, and how many bytes each takes.
-const COUNT: usize = 20;
+const COUNT: usize = 21;
 
 const WIDTH: usize = 11;
 
@@ -69,6 +71,7 @@ fn words() -> [u8; WIDTH * COUNT] {
     5masks     \
     5sheet     \
     5asked     \
+    5table     \
     0          "
 }
 
