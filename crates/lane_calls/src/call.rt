@@ -51,17 +51,19 @@ fn joined(
     parameters: usize,
     chosen: usize,
 ) -> u64
-    requires { ⌜ (length (now table) ≡ tableLength) × (p < 8) × (parameters < highestRank) × (chosen < 8 ^ (3 - parameters)) ⌝ }
+    requires { ⌜ (length (now table) ≡ tableLength) × (p < 8) × (0 < parameters) × (parameters < highestRank) × (chosen < 8 ^ (3 - parameters)) ⌝ }
     ensures { λ r. ⌜ r ≡ matrix (reaches (now (table .entry)) (lanesAt p (now (sets .entry))) parameters chosen) ⌝ }
 {
-    if parameters == 0 {
-        return relation_at(table, chosen);
-    }
     let set = sets[parameters] >> (8 * p);
     let mut all: u64 = 0;
     for state in 0..8usize {
         if (set >> state) % 2 == 1 {
-            all = joined(table, sets, p, parameters - 1, 8 * chosen + state) | all;
+            let next = 8 * chosen + state;
+            if parameters == 1 {
+                all = relation_at(table, next) | all;
+            } else {
+                all = joined(table, sets, p, parameters - 1, next) | all;
+            }
         }
     }
     all
