@@ -14,6 +14,9 @@ Inv-loop bytes₀ at₀ bytes at = (at ≤ length bytes₀) × BytesWritten (λ 
 abbrev μ-loop : tie.MeasureT-loop
 μ-loop bytes₀ at₀ bytes at = length bytes₀ - at
 
+abbrev begin : tie.At-loop Inv-loop μ-loop → tie.Start Inv-loop μ-loop
+begin c = c .before
+
 loop-holds : tie.Need-loop-holds Inv-loop μ-loop
 loop-holds c = (omega arith, written-none (λ k. 0) _)
 
@@ -37,7 +40,7 @@ same-length c = c .before .loop .inv .1 .long
 returns : tie.Need-returns Inv-loop μ-loop
 returns c =
     let l = c .before .loop in
-    let bytes = c .before .before .args .bytes .now in
+    let bytes = begin (c .before) .args .bytes .now in
     let e : l .at ≡ length bytes = omega (arith, l .inv .1 .long) in
     rw e at (l .inv .1)
 

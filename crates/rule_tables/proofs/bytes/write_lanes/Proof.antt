@@ -14,6 +14,9 @@ Inv-loop bytes₀ relation lanes p₀ bytes p = (p ≤ lanes) × LanesWritten re
 abbrev μ-loop : tie.MeasureT-loop
 μ-loop bytes₀ relation lanes p₀ bytes p = lanes - p
 
+abbrev begin : tie.At-loop Inv-loop μ-loop → tie.Start Inv-loop μ-loop
+begin c = c .before
+
 loop-holds : tie.Need-loop-holds Inv-loop μ-loop
 loop-holds c = (omega arith, written-none (lane (c .args .relation)) (c .args .bytes .now))
 
@@ -39,7 +42,7 @@ loop-again : tie.Need-loop-again Inv-loop μ-loop
 unfolding lane
 loop-again c =
     let l = c .before .loop in
-    let s = c .before .before in
+    let s = begin (c .before) in
     (omega arith, written-more (lane (s .args .relation)) (s .args .bytes .now) (l .p) (l .bytes) _ (omega (arith, s .pre)) refl (l .inv .1))
 
 same-length : tie.Need-same-length Inv-loop μ-loop
@@ -48,7 +51,7 @@ same-length c = c .before .loop .inv .1 .long
 returns : tie.Need-returns Inv-loop μ-loop
 returns c =
     let l = c .before .loop in
-    let e : l .p ≡ c .before .before .args .lanes = omega arith in
+    let e : l .p ≡ begin (c .before) .args .lanes = omega arith in
     rw e at (l .inv .1)
 
 pub write-lanes-spec : {M : Type 1} → statement M

@@ -8,6 +8,10 @@ use borrow.Author.Tests.{lt-ltb, le-ltb}
 use Rattle.rule_tables.proofs.choice.are_states.Statement.{statement}
 use Rattle.rule_tables.proofs.choice.are_states.Tie as tie
 
+-- the function starts here, as seen from where the first digit is a state
+abbrev begin : tie.Else1 → tie.Start
+begin c = c .before
+
 first-no-state : tie.Need-returns
 first-no-state c =
     let a = c .before .args in
@@ -15,12 +19,12 @@ first-no-state c =
 
 second-no-state : tie.Need-returns-2
 second-no-state c =
-    let a = c .before .before .args in
+    let a = begin (c .before) .args in
     rw (le-ltb (a .choice / 8 % 8) (a .states) (omega arith)) (sym (and-false (ltb (a .choice % 8) (a .states))))
 
 third-state : tie.Need-returns-3
 third-state c =
-    let a = c .before .before .args in
+    let a = begin (c .before) .args in
     rw (lt-ltb (a .choice % 8) (a .states) (omega arith), lt-ltb (a .choice / 8 % 8) (a .states) (omega arith))
 
 pub are-states-spec : {M : Type 1} → statement M
