@@ -1,13 +1,13 @@
 -- What is known while a form is evaluated.
 use mathlib.Core.Path.{_≡_}
 use mathlib.Core.List.{List}
-use Prim.Native.Nat.{ℕ}
-use lib.ListN.{getD}
+use Prim.Native.Nat.{ℕ, zero, suc}
+use lib.ListN.{getD, set}
 use Rattle.terms.specs.Test.{tabulate}
-use Rattle.terms.specs.Relation.{relationAt}
+use Rattle.terms.specs.Relation.{relationOf, relationAt}
 use Rattle.terms.specs.Sheet.{transitionsOf}
 use Rattle.terms.specs.Check.{automatonRefusal}
-use Rattle.terms.specs.FormBytes.{tableCount, tableRules}
+use Rattle.terms.specs.FormBytes.{tableCount, tableRule, tableRules}
 use Rattle.forms.specs.Private.Table.{ValidTable}
 use Rattle.relations.specs.Spread.{Spreads}
 use Rattle.transition_links.specs.Links.{Linked}
@@ -19,6 +19,12 @@ entryIn relations i = getD relations i 0
 -- the entries of the rules of a table (01 Mask from the form)
 abbrev pub relationsIn : List ℕ → List ℕ → List ℕ → List ℕ
 relationsIn alphabet automaton table = tabulate (tableCount table) (relationAt (transitionsOf alphabet automaton) (tableRules alphabet table))
+
+-- a list of entries after those of n rules from rule i on are worked out, one after another, each from the entries as they then are
+unfoldable pub writtenFrom : List ℕ → List ℕ → List ℕ → ℕ → ℕ → List ℕ → List ℕ
+writtenFrom alphabet automaton table i zero relations = relations
+writtenFrom alphabet automaton table i (suc n) relations =
+    writtenFrom alphabet automaton table (suc i) n (set relations i (relationOf (transitionsOf alphabet automaton) (tableRule alphabet table i) (entryIn relations)))
 
 -- alphabet, automaton and table pass their checks, the automaton's links, and the table that spreads a set of states
 pub record Evaluable (alphabet automaton table spread links : List ℕ) : Type 0 where

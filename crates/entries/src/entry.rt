@@ -10,7 +10,7 @@ use transitions::step::step_closed;
 use transitions::step::step_open;
 ghost use mathlib.Core.Path.{_≡_};
 ghost use mathlib.Core.List.{[], _∷_};
-ghost use Prim.Native.Nat.{_%_, _<_, _≤_};
+ghost use Prim.Native.Nat.{_-_, _%_, _<_, _≤_};
 ghost use lib.ListN.{length};
 ghost use Rattle.terms.specs.Relation.{statesAt, relationOf};
 ghost use Rattle.terms.specs.Sheet.{transitionsOf};
@@ -18,7 +18,7 @@ ghost use Rattle.terms.specs.FormBytes.{tableCount, tableRule};
 ghost use Rattle.terms.specs.Check.{automatonRefusal};
 ghost use Rattle.terms.specs.Calls.{lentAfter};
 ghost use Rattle.forms.specs.Private.Table.{ValidTable};
-ghost use Rattle.entries.specs.Evaluable.{Evaluable, entryIn, relationsIn};
+ghost use Rattle.entries.specs.Evaluable.{Evaluable, entryIn, relationsIn, writtenFrom};
 
 // The entry of a rule, 0 where there is none: the slots that are not used name no rule.
 fn entry_of(relations: &[u64], rule: Rule) -> u64
@@ -81,7 +81,37 @@ fn relation_of(
     compose(spread, outer, inner)
 }
 
-// The entries of all rules of a table, from the lowest on, into a lent slice.
+// The entries of the rules from one number up to another, from the lowest on, each from the entries as they then are in the lent slice.
+pub fn write_entries(
+    alphabet: &[u8],
+    automaton: &[u8],
+    table: &[u8],
+    spread: &[u64; 256],
+    links: &[u8; 511],
+    from: Rule,
+    end: usize,
+    relations: &mut [u64],
+)
+    requires { ⌜ Evaluable (now alphabet) (now automaton) (now table) (now spread) (now links) × (from .0 ≤ end) × (end ≤ tableCount (now table)) × (end ≤ length (now relations)) ⌝ }
+    ensures { λ _. ⌜ now (relations .exit) ≡ writtenFrom (now (alphabet .entry)) (now (automaton .entry)) (now (table .entry)) (from .0) (end - from .0) (now (relations .entry)) ⌝ }
+{
+    let mut number = from.0;
+    while (number as usize) < end {
+        let relation = relation_of(
+            alphabet,
+            automaton,
+            table,
+            spread,
+            links,
+            relations,
+            Rule(number),
+        );
+        relations[number as usize] = relation;
+        number += 1;
+    }
+}
+
+// The entries of all rules of a table into a lent slice.
 pub fn write_relations(
     alphabet: &[u8],
     automaton: &[u8],
@@ -94,18 +124,14 @@ pub fn write_relations(
 {
     let spread = spread_table();
     let links = link_transitions(automaton);
-    let mut number: u16 = 0;
-    while (number as usize) < rules {
-        let relation = relation_of(
-            alphabet,
-            automaton,
-            table,
-            &spread,
-            &links,
-            relations,
-            Rule(number),
-        );
-        relations[number as usize] = relation;
-        number += 1;
-    }
+    write_entries(
+        alphabet,
+        automaton,
+        table,
+        &spread,
+        &links,
+        Rule(0),
+        rules,
+        relations,
+    );
 }
