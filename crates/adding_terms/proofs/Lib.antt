@@ -1,0 +1,9 @@
+pub mod Every
+pub mod Dependence
+pub mod Redone
+pub mod Longer
+pub mod Same
+pub mod Runs
+pub mod Low
+pub mod Carried
+pub mod Examples
