@@ -13,13 +13,13 @@ use terms::State;
 use terms::Terminal;
 
 // How many bytes stand before the transitions: the number of states, and the final states.
-const HEAD: usize = 2;
+pub const HEAD: usize = 2;
 
 // Where the child states stand in a transition: behind its terminal and its target.
 const CHILDREN: usize = 2;
 
 // How many bytes a transition has: it has as many child states as the highest rank.
-const TRANSITION: usize = CHILDREN + HIGHEST_RANK as usize;
+pub const TRANSITION: usize = CHILDREN + HIGHEST_RANK as usize;
 
 // What represents an unused child state.
 const UNUSED: u8 = 0xFF;
@@ -62,7 +62,7 @@ fn children_fit(automaton: &[u8], i: usize, rank: u8) -> bool
 }
 
 // Transition `i` names a terminal of the alphabet and states of the automaton, and its unused child states are unused.
-fn transition_fits(alphabet: &[u8], automaton: &[u8], i: usize) -> bool
+pub fn transition_fits(alphabet: &[u8], automaton: &[u8], i: usize) -> bool
     requires { ⌜ 2 + 6 * i + 6 ≤ length (now automaton) ⌝ }
     ensures { λ r. ⌜ r ≡ transitionFits (now (alphabet .entry)) (now (automaton .entry)) i ⌝ }
 {

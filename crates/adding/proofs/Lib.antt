@@ -1,0 +1,3 @@
+mod Alone
+mod Lengthened
+mod Added
