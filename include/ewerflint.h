@@ -27,14 +27,15 @@
  * where none writes what another one is given.
  *
  * Stack. The most bytes that each call was seen to take, on the inputs of link/stack.c, which go deepest; link/stack measures them anew.
- *   ewf_room 238            ewf_make_form 11,172    ewf_mark 11,364      ewf_evaluate 3,304     ewf_size 152     ewf_label 33,016
+ *   ewf_room 238            ewf_make_form 11,172    ewf_mark 11,364      ewf_evaluate 2,916     ewf_size 152     ewf_label 33,016
  *   ewf_read_rule 88        ewf_unfold 329,744      ewf_walk 524,924     ewf_wrap 216           ewf_practice 168 ewf_blackboard 4,920
+ *   ewf_add_transition 6,344
  * Unfolding takes 144 bytes for each level of a form's rules, the walk 128 for each level of its tree. No other call goes deeper with
  * what it is given, save making and marking, which take 8,484 to 8,788 and 8,676 to 8,980 on the sheets W, K7 and billions of samples/.
  *
- * Pace. Where ewf_evaluate and ewf_mark compose two relations (rules of kind 3), or apply one to a set of states (rules of kind 2), they run
- * the same instructions whatever bits these have; link/pace tests this. How long matching a node with transitions takes (kinds 0 and 1)
- * depends on the automaton and on the states of the node's children. */
+ * Pace. Where ewf_evaluate, ewf_mark and ewf_add_transition compose two relations (rules of kind 3), or apply one to a set of states (rules
+ * of kind 2), they run the same instructions whatever bits these have; link/pace tests this. How long matching a node with transitions
+ * takes (kinds 0 and 1) depends on the automaton and on the states of the node's children. */
 #ifndef EWERFLINT_H
 #define EWERFLINT_H
 
@@ -60,7 +61,7 @@ enum ewf_refusal {
     EWF_RIGHT_SIDE = 10,       /* the nodes of a rule are not one whole tree */
     EWF_PARAMETER = 11,        /* a parameter occurs a second time */
     EWF_START_RANK = 13,       /* the last rule has parameters */
-    EWF_AUTOMATON_LENGTH = 14, /* an automaton under 2 bytes, a cut transition, or over 255 of them */
+    EWF_AUTOMATON_LENGTH = 14, /* an automaton under 2 bytes, a cut transition, or over 255 of them, one that is to be added included */
     EWF_STATES = 15,           /* the states or the final states are out of range */
     EWF_TRANSITION = 16,       /* a transition names something that does not exist */
     EWF_FORM_SHORT = 17,       /* the slice for the form is too short */
@@ -74,12 +75,14 @@ enum ewf_refusal {
     EWF_TALLY_FULL = 25,       /* some count of the candidate is 4,294,967,295 */
     EWF_CANDIDATE = 26,        /* the number of a candidate is over 15 */
     EWF_DRAWN_RULES = 27,      /* no rule of a practice sheet is to be drawn, or over 20 */
-    EWF_OTHER_ALPHABET = 28    /* the alphabet given is not the one in the form's head */
+    EWF_OTHER_ALPHABET = 28,   /* the alphabet given is not the one in the form's head */
+    EWF_NEW_TRANSITION = 29    /* a transition that is to be added is not 6 bytes, or names something that does not exist */
 };
 
 /* The lengths that calls ask for, in elements, by T, R and K. */
 #define EWF_FORM_LENGTH(T, R) (5 + (size_t)(T) + 12 * (size_t)(R))     /* the bytes of a form of T terminals and R rules */
-#define EWF_RELATIONS(R) ((size_t)(R))                 /* the numbers that evaluation asks for */
+#define EWF_RELATIONS(R) ((size_t)(R))                 /* the numbers that evaluation and adding a transition ask for */
+#define EWF_TRANSITION_LENGTH 6                        /* the bytes of a transition */
 #define EWF_COUNTS(R) (2 * (size_t)(R))                /* the numbers that size, label and unfolding ask for */
 #define EWF_TABLE_LENGTH 4096                          /* the bytes of a rule's table, by the blackboard method */
 #define EWF_TABLES(K) (EWF_TABLE_LENGTH * (size_t)(K)) /* the bytes that the blackboard method asks for, for a sheet of K rules */
@@ -102,6 +105,7 @@ enum ewf_refusal {
 
 /* The largest of each. */
 #define EWF_LONGEST_SHEET 1832
+#define EWF_MOST_TRANSITIONS 255                       /* the transitions of an automaton */
 #define EWF_MOST_SHEET_RULES 64                        /* K of a sheet */
 #define EWF_MOST_TABLES EWF_TABLES(EWF_MOST_SHEET_RULES)     /* 262,144 bytes, for the blackboard method */
 #define EWF_MOST_NODES 128                             /* the right-side nodes of a sheet, and the nodes of a tree that is wrapped */
@@ -151,6 +155,23 @@ uint8_t ewf_evaluate(const uint8_t *alphabet, size_t alphabet_length,
                      const uint8_t *form, size_t form_length,
                      uint64_t *relations, size_t relations_length,
                      uint8_t *mask);
+
+/* The relations of an automaton carried over to the longer one that has a transition more, and the mask by them: bits 0 to 7 of the start's
+ * number as it is afterwards.
+ * automaton: the old one, with fewer than EWF_MOST_TRANSITIONS transitions; the longer one is its bytes with those of the transition behind
+ * them. transition: EWF_TRANSITION_LENGTH bytes, its states among those of the old automaton.
+ * relations: EWF_RELATIONS(R) numbers. Number i is redone exactly where rule i, or one that it calls directly or through others, is of kind
+ * 0 or 1 with the transition's terminal, from the numbers of lower rules as they are by then; every other number is kept. Where the numbers
+ * were those that ewf_evaluate leaves for the old automaton, they are afterwards those that it leaves for the longer one, the mask is the
+ * same as well, and no bit of a number is lost. The slice may hold anything else too.
+ * Refused by 3, 4 (the alphabet), 14, 15, 16 (the old automaton; 14 also where it is full), 29 (the transition), 18, 28, 19; each leaves
+ * relations and mask as they were. */
+uint8_t ewf_add_transition(const uint8_t *alphabet, size_t alphabet_length,
+                           const uint8_t *form, size_t form_length,
+                           const uint8_t *automaton, size_t automaton_length,
+                           const uint8_t *transition, size_t transition_length,
+                           uint64_t *relations, size_t relations_length,
+                           uint8_t *mask);
 
 /* The form's tree in preorder, and how many nodes it has.
  * counts: EWF_COUNTS(R) numbers; tree: as many bytes as the tree has nodes, which ewf_size tells.

@@ -1,5 +1,5 @@
 /* The calls on the sheet W of document 01: how much its mark asks for, its mark, the mask by the blackboard method, its form, and from the form the mask,
- * the size, each label and the tree; then a call with the alphabet of another lesson. */
+ * the size, each label and the tree; a transition more, to whose automaton the relations are carried over; then a call with the alphabet of another lesson. */
 #include <inttypes.h>
 #include <stdio.h>
 #include "ewerflint.h"
@@ -77,6 +77,20 @@ static int evaluate(size_t length)
     return 0;
 }
 
+/* Adds the transition f(0, 0) to 1: the relations that evaluation left are carried over to the longer automaton. */
+static int add_transition(size_t length)
+{
+    static const uint8_t transition[EWF_TRANSITION_LENGTH] = {1, 1, 0, 0, 0xFF, 0xFF};
+    uint8_t mask = 0;
+
+    if (refused("add transition", ewf_add_transition(alphabet, TERMINALS, form, length, automaton, sizeof W - AUTOMATON, transition, sizeof transition, relations,
+                                                     EWF_RELATIONS(EWF_RULES(form)), &mask))) {
+        return 1;
+    }
+    printf("mask with a transition more: %u\n", (unsigned)mask);
+    return 0;
+}
+
 static int print_labels(size_t length)
 {
     size_t asked = EWF_COUNTS(EWF_RULES(form));
@@ -139,5 +153,5 @@ int main(void)
         return 1;
     }
     printf("form: %zu rules, %zu terminals, %zu bytes\n", EWF_RULES(form), EWF_TERMINALS(form), length);
-    return evaluate(length) || print_labels(length) || unfold(length) || give_other_alphabet(length);
+    return evaluate(length) || add_transition(length) || print_labels(length) || unfold(length) || give_other_alphabet(length);
 }

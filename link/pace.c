@@ -13,7 +13,7 @@
 #include "ewerflint.h"
 
 /* Each round has an automaton of its own, and a form in which each of POOL relations meets each of them and each of POOL sets of states. No automaton has
- * more than 96 transitions, the limit that R-9 sets. */
+ * more than 96 transitions, the limit that R-9 sets, counting the one that is added. */
 enum { ROUNDS = 9, POOL = 18, STATES = 8, LEAVES = 4, UNARY = 7, TERMINALS = LEAVES + UNARY, MOST_TRANSITIONS = 96 };
 
 /* The kinds of a form's rules: a node, a node with an open place, B(C) and B(C(y)). */
@@ -52,6 +52,11 @@ static const uint8_t sheet[] = {
     0x02, 0x01, 0x00, 0x00, 0xFF, 0xFF, 0xFF, 0xFF, 0x01, 0x01, 0x00, 0xFF, 0xFF, 0xFF, 0x01, 0x00, 0x01, 0xFF, 0xFF, 0xFF,
 };
 
+/* The rules whose entries a call stores, in order, and which rules depend on the terminal of the transition that is added. */
+static size_t order[EWF_MOST_RULES];
+static size_t asked;
+static uint8_t dependent[EWF_MOST_RULES];
+
 /* What was run for an entry: how many instructions, and a number made of their addresses in turn. */
 struct pace {
     uint64_t instructions;
@@ -63,9 +68,12 @@ static volatile struct pace running;
 static volatile struct pace paces[EWF_MOST_RULES];
 static volatile size_t stored;
 
-/* The pace of each kind, and how many rules had it. */
-static struct pace even[KINDS];
-static size_t tested[KINDS];
+/* The pace of each kind in evaluation and marking, behind it the pace of each kind where a transition is added, and how many rules had it. In the latter a
+ * rule is tested for whether it depends on the terminal before its entry is made, and the test ends at the first slot that does: so a kind has two paces. */
+enum { ADDING = KINDS, PACES = ADDING + 2 * KINDS };
+
+static struct pace even[PACES];
+static size_t tested[PACES];
 
 static void require(int holds, const char *what)
 {
@@ -122,7 +130,7 @@ static void make_automaton(void)
     }
     add_drawn_pairs(LEAVES + ONE_PAIR, 1);
     add_drawn_pairs(LEAVES + FEW_DRAWN, 10);
-    add_drawn_pairs(LEAVES + MANY_DRAWN, 44);
+    add_drawn_pairs(LEAVES + MANY_DRAWN, 43);
 }
 
 static uint8_t *rule_at(size_t number)
@@ -217,7 +225,7 @@ static void on_single_step(int signal, siginfo_t *info, void *interrupted)
     (void)info;
     running.instructions++;
     running.path = (running.path ^ (uint64_t)machine->uc_mcontext.gregs[REG_RIP]) * 0x100000001B3;
-    if (stored < EWF_MOST_RULES && entries[stored] != filling) {
+    if (stored < asked && entries[order[stored]] != filling) {
         paces[stored] = running;
         stored++;
         running.instructions = 0;
@@ -225,11 +233,23 @@ static void on_single_step(int signal, siginfo_t *info, void *interrupted)
     }
 }
 
+/* Asks for the entry of a rule to be stored. */
+static void ask_for(size_t number)
+{
+    relations[number] = filling;
+    order[asked++] = number;
+}
+
+static void ask_for_all(void)
+{
+    asked = 0;
+    for (size_t i = 0; i < EWF_MOST_RULES; i++) {
+        ask_for(i);
+    }
+}
+
 static void start_single_steps(void)
 {
-    for (size_t i = 0; i < EWF_MOST_RULES; i++) {
-        relations[i] = filling;
-    }
     stored = 0;
     running.instructions = 0;
     running.path = 0;
@@ -246,6 +266,7 @@ static void evaluate_in_single_steps(void)
     uint8_t mask;
     uint8_t refusal;
 
+    ask_for_all();
     start_single_steps();
     refusal = ewf_evaluate(alphabet, sizeof alphabet, automaton, automaton_length, form, EWF_FORM_LENGTH(TERMINALS, rules), relations, EWF_MOST_RULES, &mask);
     end_single_steps();
@@ -263,39 +284,88 @@ static void mark_in_single_steps(void)
     uint8_t mask;
     uint8_t refusal;
 
+    ask_for_all();
     start_single_steps();
     refusal = ewf_mark(sheet, sizeof sheet, form, sizeof form, relations, EWF_MOST_RULES, 0, tally, EWF_TALLY_COUNTS, &verdict, &mask);
     end_single_steps();
     require(refusal == EWF_NOT_REFUSED, "marking is refused");
 }
 
-/* Holds a rule to the pace of the rules of its kind before it. */
-static void require_pace(const uint8_t *rule, uint64_t instructions, uint64_t path)
+static size_t slot_of(const uint8_t *rule, int slot)
 {
-    struct pace *pace = &even[rule[0]];
+    return rule[4 + 2 * slot] + 256u * rule[5 + 2 * slot];
+}
 
-    if (tested[rule[0]]++ == 0) {
+static int slot_depends(const uint8_t *rule, int slot)
+{
+    return slot_of(rule, slot) != UNUSED && dependent[slot_of(rule, slot)];
+}
+
+/* Asks for the entries of the rules that depend on a terminal; those of the others stay as evaluation left them. */
+static void ask_for_dependent(uint8_t terminal)
+{
+    asked = 0;
+    for (size_t i = 0; i < rules; i++) {
+        const uint8_t *rule = rule_at(i);
+
+        dependent[i] = (rule[0] <= PIERCED && rule[1] == terminal) || slot_depends(rule, 0) || slot_depends(rule, 1);
+        if (dependent[i]) {
+            ask_for(i);
+        }
+    }
+}
+
+/* Adds a pair of states to the relation that most others are composed with. */
+static void add_in_single_steps(void)
+{
+    const uint8_t transition[EWF_TRANSITION_LENGTH] = {LEAVES + EACH_TO_NEXT, (uint8_t)drawn(STATES), (uint8_t)drawn(STATES), 0xFF, 0xFF, 0xFF};
+    uint8_t mask;
+    uint8_t refusal;
+
+    ask_for_dependent(transition[0]);
+    start_single_steps();
+    refusal = ewf_add_transition(alphabet, sizeof alphabet, form, EWF_FORM_LENGTH(TERMINALS, rules), automaton, automaton_length, transition, sizeof transition,
+                                 relations, EWF_MOST_RULES, &mask);
+    end_single_steps();
+    require(refusal == EWF_NOT_REFUSED, "adding a transition is refused");
+}
+
+/* Holds a rule to the pace of the rules before it that have the same one. */
+static void require_pace(const uint8_t *rule, size_t which, uint64_t instructions, uint64_t path)
+{
+    struct pace *pace = &even[which];
+
+    if (tested[which]++ == 0) {
         *pace = (struct pace){instructions, path};
     }
     if (instructions != pace->instructions || path != pace->path) {
         fprintf(stderr, "pace: kind %u, %" PRIx64 " and %" PRIx64 ": %" PRIu64 " instructions%s, %" PRIu64 " for those before\n", rule[0],
-                relations[rule[4] + 256 * rule[5]], relations[rule[6] + 256 * rule[7]], instructions,
+                relations[slot_of(rule, 0)], relations[slot_of(rule, 1)], instructions,
                 instructions == pace->instructions ? " on another path" : "", pace->instructions);
         exit(1);
     }
 }
 
-/* Every rule of kind 2 or 3 that follows one of its own kind has the same pace. What is run for another rule depends on the kind of the rule before it too. */
-static void require_even(void)
+/* Every rule of kind 2 or 3 that follows one of its own kind, whose entry was stored too, has the same pace. What is run for another rule depends on the kind
+ * of the rule before it too. */
+static void require_even(size_t expected, int adding)
 {
-    require(stored == EWF_RULES(form), "not every entry was seen to be stored; does the machine stop after each instruction?");
+    require(stored == expected, "not every entry was seen to be stored; does the machine stop after each instruction?");
     for (size_t i = 1; i < stored; i++) {
-        const uint8_t *rule = rule_at(i);
+        const uint8_t *rule = rule_at(order[i]);
+        const size_t which = adding ? (size_t)(ADDING + 2 * rule[0] + slot_depends(rule, 0)) : rule[0];
 
-        if (rule[0] >= FILLED && rule[0] == *rule_at(i - 1)) {
-            require_pace(rule, paces[i].instructions, paces[i].path);
+        if (rule[0] >= FILLED && order[i] == order[i - 1] + 1 && rule[0] == *rule_at(order[i - 1])) {
+            require_pace(rule, which, paces[i].instructions, paces[i].path);
         }
     }
+}
+
+/* How many rules of a kind were tested where a transition is added, where the test of the first slot decided and where that of the second did. */
+static size_t tested_adding(int kind)
+{
+    require(tested[ADDING + 2 * kind] > 1 && tested[ADDING + 2 * kind + 1] > 1, "adding a transition redid no two entries in a row");
+    return tested[ADDING + 2 * kind] + tested[ADDING + 2 * kind + 1];
 }
 
 int main(void)
@@ -309,16 +379,20 @@ int main(void)
         make_automaton();
         make_form();
         evaluate_in_single_steps();
-        require_even();
+        require_even(rules, 0);
+        add_in_single_steps();
+        require_even(asked, 1);
     }
     require(even[COMPOSED].instructions >= 16, "an entry is not made where it is stored: composing reads the table sixteen times");
     require(even[FILLED].instructions >= 8, "an entry is not made where it is stored: applying joins eight rows");
     composed = tested[COMPOSED];
     applied = tested[FILLED];
     mark_in_single_steps();
-    require_even();
+    require_even(EWF_RULES(form), 0);
     require(tested[COMPOSED] > composed && tested[FILLED] > applied, "marking composed or applied no two relations in a row");
     printf("pace: %zu relations were composed in %" PRIu64 " instructions each, %zu applied in %" PRIu64 ", and marking runs the same\n", composed,
            even[COMPOSED].instructions, applied, even[FILLED].instructions);
+    printf("pace: where transitions were added, %zu were composed again and %zu applied again, in as many instructions each\n", tested_adding(COMPOSED),
+           tested_adding(FILLED));
     return 0;
 }

@@ -136,6 +136,16 @@ static void *evaluate(void *unused)
     return unused;
 }
 
+/* The automaton without its last transition, which is added. */
+static void *add_transition(void *unused)
+{
+    const size_t old = sizeof automaton - EWF_TRANSITION_LENGTH;
+    uint8_t mask;
+
+    require(ewf_add_transition(alphabet, TERMINALS, form, sizeof form, automaton, old, automaton + old, EWF_TRANSITION_LENGTH, numbers, EWF_MOST_RULES, &mask));
+    return unused;
+}
+
 static void *size(void *unused)
 {
     uint64_t nodes;
@@ -243,8 +253,9 @@ int main(void)
         const char *name;
         void *(*call)(void *);
     } calls[] = {
-        {"room", room}, {"make form", make}, {"mark", mark}, {"blackboard", blackboard}, {"evaluate", evaluate}, {"size", size}, {"label", label},
-        {"unfold", unfold}, {"read rule", read_rule}, {"walk, chain", walk_chain}, {"walk, comb", walk_comb}, {"wrap", wrap}, {"practice", practice},
+        {"room", room}, {"make form", make}, {"mark", mark}, {"blackboard", blackboard}, {"evaluate", evaluate},
+        {"add transition", add_transition}, {"size", size}, {"label", label}, {"unfold", unfold}, {"read rule", read_rule},
+        {"walk, chain", walk_chain}, {"walk, comb", walk_comb}, {"wrap", wrap}, {"practice", practice},
     };
     size_t nothing = taken(empty);
 

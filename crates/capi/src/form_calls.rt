@@ -1,4 +1,5 @@
 // The calls on a form.
+use adding::add::add_transition;
 use evaluation::evaluate::evaluate;
 use labelling::answer::Label;
 use labelling::label::label;
@@ -13,6 +14,7 @@ ghost use Rattle.terms.specs.Tree.{preorder};
 ghost use Rattle.terms.specs.FormBytes.{formTree};
 ghost use Rattle.terms.specs.Count.{sizeOf, sizeAnswer};
 ghost use Rattle.terms.specs.Calls.{lentAfter, evaluationRefusal, relationsOf, formMask, sizeRefusal, unfoldingRefusal, labelRefusal, labelAt, countsOf};
+ghost use Rattle.adding_terms.specs.Adding.{addingRefusal, addedRelations, addedMask};
 ghost use Rattle.capi.specs.Result.{resultAfter, sizeNumber};
 
 // The mask of the states that runs on the form's tree end in.
@@ -32,6 +34,29 @@ pub extern "C" fn ewf_evaluate(
         MaskAnswer::Refused(n) => n,
         MaskAnswer::Mask(states) => {
             *mask = states;
+            0
+        }
+    }
+}
+
+// The relations of an automaton carried over to one with a transition more, and the mask by them.
+#[no_mangle]
+pub extern "C" fn ewf_add_transition(
+    alphabet: &[u8],
+    form: &[u8],
+    automaton: &[u8],
+    transition: &[u8],
+    relations: &mut [u64],
+    mask: &mut u8,
+) -> u8
+    ensures refusal { λ r. ⌜ r ≡ addingRefusal (now (alphabet .entry)) (now (form .entry)) (now (automaton .entry)) (now (transition .entry)) (length (now (relations .entry))) ⌝ }
+    ensures relations { λ _. ⌜ now (relations .exit) ≡ lentAfter (addingRefusal (now (alphabet .entry)) (now (form .entry)) (now (automaton .entry)) (now (transition .entry)) (length (now (relations .entry)))) (addedRelations (now (alphabet .entry)) (now (form .entry)) (now (automaton .entry)) (now (transition .entry)) (now (relations .entry))) (now (relations .entry)) ⌝ }
+    ensures mask { λ _. ⌜ now (mask .exit) ≡ resultAfter (addingRefusal (now (alphabet .entry)) (now (form .entry)) (now (automaton .entry)) (now (transition .entry)) (length (now (relations .entry)))) (addedMask (now (alphabet .entry)) (now (form .entry)) (now (automaton .entry)) (now (transition .entry)) (now (relations .entry))) (now (mask .entry)) ⌝ }
+{
+    match add_transition(alphabet, form, automaton, transition, relations) {
+        MaskAnswer::Refused(n) => n,
+        MaskAnswer::Mask(carried) => {
+            *mask = carried;
             0
         }
     }
