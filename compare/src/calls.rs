@@ -1,4 +1,4 @@
-//! The twelve calls, in the shape of the C interface: each returns 0 or a refusal's number, and
+//! The thirteen calls, in the shape of the C interface: each returns 0 or a refusal's number, and
 //! results go through the `&mut` arguments, which a refusal leaves as they were.
 
 /// The calls whose results the documents fix.
@@ -8,6 +8,17 @@ pub trait FixedCalls {
         alphabet: &[u8],
         automaton: &[u8],
         form: &[u8],
+        relations: &mut [u64],
+        mask: &mut u8,
+    ) -> u8;
+
+    /// Carries the relations over to the automaton with one transition more.
+    fn add_transition(
+        &self,
+        alphabet: &[u8],
+        form: &[u8],
+        automaton: &[u8],
+        transition: &[u8],
         relations: &mut [u64],
         mask: &mut u8,
     ) -> u8;

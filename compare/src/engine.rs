@@ -21,6 +21,19 @@ unsafe extern "C" {
         relations_length: usize,
         mask: *mut u8,
     ) -> u8;
+    fn ewf_add_transition(
+        alphabet: *const u8,
+        alphabet_length: usize,
+        form: *const u8,
+        form_length: usize,
+        automaton: *const u8,
+        automaton_length: usize,
+        transition: *const u8,
+        transition_length: usize,
+        relations: *mut u64,
+        relations_length: usize,
+        mask: *mut u8,
+    ) -> u8;
     fn ewf_unfold(
         alphabet: *const u8,
         alphabet_length: usize,
@@ -158,6 +171,18 @@ impl FixedCalls for Ewerflint {
         mask: &mut u8,
     ) -> u8 {
         call!(ewf_evaluate(alphabet, automaton, form; relations; ; ; mask))
+    }
+
+    fn add_transition(
+        &self,
+        alphabet: &[u8],
+        form: &[u8],
+        automaton: &[u8],
+        transition: &[u8],
+        relations: &mut [u64],
+        mask: &mut u8,
+    ) -> u8 {
+        call!(ewf_add_transition(alphabet, form, automaton, transition; relations; ; ; mask))
     }
 
     fn unfold(

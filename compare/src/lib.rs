@@ -1,5 +1,5 @@
 //! A comparison of the engine with an implementation written from document 01 and and
-//! of document 02 alone.
+//! of document 02 alone.
 
 #![deny(unsafe_code)]
 
@@ -12,6 +12,7 @@ pub mod generate;
 pub mod harness;
 pub mod hex;
 pub mod idiomatic;
+pub mod limits;
 pub mod reference;
 pub mod refusal;
 pub mod rows;

@@ -1,4 +1,4 @@
-//! Refusals: the numbers of document 01's table, and 26 to 28 of document 02. R-3 of document 02
+//! Refusals: the numbers of document 01's table, and 26 to 29 of document 02. R-3 of document 02
 //! has retired 12.
 
 /// A refusal's number.
@@ -9,7 +9,7 @@ pub struct Refusal(pub u8);
 pub type Answer<T> = Result<T, Refusal>;
 
 /// The highest number.
-pub const LAST: u8 = 28;
+pub const LAST: u8 = 29;
 
 /// The number that is given no more.
 pub const RETIRED: u8 = 12;

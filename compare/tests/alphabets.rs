@@ -2,7 +2,7 @@
 //! form.
 
 use compare::calls::FixedCalls;
-use compare::harness::named_alphabets::{ALPHABETS, carrying, leaves};
+use compare::harness::named_alphabets::{ALPHABETS, carrying, leaves, transition_over};
 use compare::hex::bytes;
 use compare::reference::facts::Facts;
 use compare::reference::fixed_calls::Reference;
@@ -13,13 +13,14 @@ use compare::rows;
 /// What a slice or a place holds that no call has written to.
 const HELD: u8 = 0xA5;
 
-/// The codes of evaluation, size, label, unfolding and reading, with slices of so many numbers and
-/// room for so many nodes; and whether all that was lent is as it was.
-fn codes(given: &[u8], form: &[u8], numbers: usize, room: usize) -> ([u8; 5], bool) {
+/// The codes of evaluation, size, label, unfolding, reading and adding, with slices of so many
+/// numbers and room for so many nodes; and whether all that was lent is as it was.
+fn codes(given: &[u8], form: &[u8], numbers: usize, room: usize) -> ([u8; 6], bool) {
     let untouched = vec![u64::from(HELD); numbers];
-    let mut slices = [(); 4].map(|()| untouched.clone());
-    let [relations, of_size, of_label, of_unfolding] = &mut slices;
+    let mut slices = [(); 5].map(|()| untouched.clone());
+    let [relations, of_size, of_label, of_unfolding, of_adding] = &mut slices;
     let (mut tree, mut rule) = (vec![HELD; room], [u16::from(HELD); 7]);
+    let (new, mut added) = (transition_over(given), HELD);
     let (mut mask, mut size, mut terminal, mut length) = (HELD, HELD.into(), HELD, HELD.into());
     let codes = [
         Reference.evaluate(given, &[1, 0], form, relations, &mut mask),
@@ -27,9 +28,10 @@ fn codes(given: &[u8], form: &[u8], numbers: usize, room: usize) -> ([u8; 5], bo
         Reference.label(given, form, 0, of_label, &mut terminal),
         Reference.unfold(given, form, of_unfolding, &mut tree, &mut length),
         Reference.read_rule(given, form, 0, &mut rule),
+        Reference.add_transition(given, form, &[1, 0], &new, of_adding, &mut added),
     ];
     let held = slices.iter().all(|slice| *slice == untouched)
-        && tree.iter().chain([&mask, &terminal]).all(|&byte| byte == HELD)
+        && tree.iter().chain([&mask, &terminal, &added]).all(|&byte| byte == HELD)
         && (size, length, rule) == (HELD.into(), HELD.into(), [HELD.into(); 7]);
     (codes, held)
 }
@@ -39,7 +41,7 @@ fn every_call_on_a_form_says_so() {
     for (given, carried, around, code) in ALPHABETS {
         let (given, form) = (bytes(given), carrying(carried, around));
         let (found, held) = codes(&given, &form, 4, 3);
-        assert_eq!((found, held), ([code; 5], code != 0), "{given:?} {form:?}");
+        assert_eq!((found, held), ([code; 6], code != 0), "{given:?} {form:?}");
     }
 }
 
@@ -47,9 +49,9 @@ fn every_call_on_a_form_says_so() {
 fn short_slices_are_told_later() {
     for (given, carried, around, code) in ALPHABETS {
         let (given, form) = (bytes(given), carrying(carried, around));
-        let wanted = if code == 0 { [19, 19, 19, 19, 0] } else { [code; 5] };
+        let wanted = if code == 0 { [19, 19, 19, 19, 0, 19] } else { [code; 6] };
         assert_eq!(codes(&given, &form, 0, 0).0, wanted, "{given:?} {form:?}");
-        let wanted = if code == 0 { [0, 0, 0, 20, 0] } else { [code; 5] };
+        let wanted = if code == 0 { [0, 0, 0, 20, 0, 0] } else { [code; 6] };
         assert_eq!(codes(&given, &form, 4, 0).0, wanted, "{given:?} {form:?}");
     }
 }
@@ -95,12 +97,12 @@ fn automata_are_checked_against_the_alphabet_given_and_first() {
 fn one_to_32_terminals() {
     for (terminals, code) in [(0, 18), (1, 0), (31, 0), (32, 0), (33, 18), (255, 18)] {
         let given = vec![0; usize::from(terminals).clamp(1, 32)];
-        assert_eq!(codes(&given, &leaves(1, terminals), 2, 1).0, [code; 5], "{terminals}");
+        assert_eq!(codes(&given, &leaves(1, terminals), 2, 1).0, [code; 6], "{terminals}");
     }
     let (longest, given) = (leaves(2048, 32), [0; 32]);
-    assert_eq!((longest.len(), codes(&given, &longest, 4096, 1).0), (24_613, [0; 5]));
-    assert_eq!(codes(&given, &leaves(2049, 32), 4098, 1).0, [18; 5]);
-    assert_eq!(codes(&given[1..], &longest, 4096, 1).0, [28; 5]);
+    assert_eq!((longest.len(), codes(&given, &longest, 4096, 1).0), (24_613, [0; 6]));
+    assert_eq!(codes(&given, &leaves(2049, 32), 4098, 1).0, [18; 6]);
+    assert_eq!(codes(&given[1..], &longest, 4096, 1).0, [28; 6]);
 }
 
 #[test]

@@ -2,6 +2,7 @@
 
 use compare::generate::practice::{Practice, like_w, practice};
 use compare::generate::random::Random;
+use compare::limits::MOST_TRANSITIONS;
 use compare::reference::alphabet::Alphabet;
 use compare::reference::automaton::Automaton;
 use compare::reference::practice::ALPHABET;
@@ -61,10 +62,12 @@ fn automata_of_every_length() {
     let any = |wanted: Option<Refusal>, fits: &dyn Fn(&[u8]) -> bool| {
         drawn.iter().any(|automaton| refused(automaton) == wanted && fits(automaton))
     };
-    for count in [0, 1, 254, 255] {
+    for count in [0, 1, MOST_TRANSITIONS - 1, MOST_TRANSITIONS] {
         assert!(any(None, &|automaton| transitions(automaton) == Some(count)), "{count}");
     }
-    assert!(any(Some(Refusal(14)), &|automaton| transitions(automaton) == Some(256)));
+    assert!(
+        any(Some(Refusal(14)), &|automaton| transitions(automaton) == Some(MOST_TRANSITIONS + 1))
+    );
     assert!(any(Some(Refusal(14)), &|automaton| transitions(automaton).is_none()));
     for length in [0, 1] {
         assert!(any(Some(Refusal(14)), &|automaton| automaton.len() == length));

@@ -1,7 +1,11 @@
-//! The sheets of the benchmark are what their names say.
+//! The sheets and the added transitions of the benchmark are what their names say.
 
+use compare::bench::adding;
 use compare::bench::subjects::{Subject, subjects};
+use compare::limits::MOST_TRANSITIONS;
+use compare::reference::calls;
 use compare::reference::facts::Facts;
+use compare::reference::form::fields;
 use compare::reference::rules::Rule;
 
 fn facts(name: &str) -> Facts {
@@ -20,7 +24,10 @@ fn small_ones() {
 fn largest() {
     let largest = facts("largest").sheet;
     assert_eq!(largest.node_count(), 128);
-    assert_eq!((largest.automaton.states, largest.automaton.transitions.len()), (8, 255));
+    assert_eq!(
+        (largest.automaton.states, largest.automaton.transitions.len()),
+        (8, MOST_TRANSITIONS)
+    );
 }
 
 #[test]
@@ -49,5 +56,28 @@ fn handed_down() {
 fn trees_of_4096_nodes() {
     for name in ["chain of 4,096", "binary of 4,096"] {
         assert_eq!(facts(name).whole.length, 4096, "{name}");
+    }
+}
+
+#[test]
+fn added_transitions() {
+    let expected =
+        [("few depend", 20..100), ("half depend", 900..1150), ("most depend", 1500..2048)];
+    for (subject, (name, redone)) in adding::subjects().into_iter().zip(expected) {
+        let [rules, found] = subject.counts();
+        assert_eq!((subject.name, rules), (name, 2048));
+        assert!(redone.contains(&found), "{name}: {found}");
+        let addition = &subject.addition;
+        assert_eq!(addition.automaton.len(), 2 + 6 * (MOST_TRANSITIONS - 1));
+        for kind in 0..4 {
+            let of_kind = (0..rules).filter(|&number| fields(&addition.form, number)[0] == kind);
+            assert!(of_kind.count() > 200, "{name}: {kind}");
+        }
+        let mut relations = vec![0; rules];
+        let (alphabet, form) = (&addition.alphabet, &addition.form);
+        let mask = calls::evaluate(alphabet, &addition.automaton, form, &mut relations);
+        assert!(mask.is_ok());
+        let with_bits = relations.iter().filter(|relation| **relation != 0).count();
+        assert!(with_bits > 1000, "{name}: {with_bits}");
     }
 }

@@ -4,6 +4,7 @@ use crate::generate::automata;
 use crate::generate::plan::Plan;
 use crate::generate::random::Random;
 use crate::generate::{shapes, sheets};
+use crate::limits::MOST_TRANSITIONS;
 use crate::reference::calls::joined;
 use crate::reference::sheet::Sheet;
 use crate::rows;
@@ -27,8 +28,8 @@ pub fn subjects() -> Vec<Subject> {
     ]
 }
 
-/// 128 nodes in 16 rules or more, 255 transitions and 8 states; of many such sheets the one whose
-/// form may have most rules.
+/// 128 nodes in 16 rules or more, 8 states and as many transitions as there may be; of many such
+/// sheets the one whose form may have most rules.
 fn largest() -> Vec<u8> {
     let full = |case: u64| {
         let mut random = Random::of_case(1, case);
@@ -47,14 +48,14 @@ fn nested() -> Vec<u8> {
     widest(&mut random, Plan { alphabet: vec![0, 1, 2, 3, 4], rules, automaton: Vec::new() })
 }
 
-/// The sheet with 8 states and 255 transitions.
+/// The sheet with 8 states and as many transitions as there may be.
 fn widest(random: &mut Random, plan: Plan) -> Vec<u8> {
     let mut automaton = automata::automaton_of(random, &plan.alphabet, 8);
-    while automaton.len() < 2 + 6 * 255 {
+    while automaton.len() < 2 + 6 * MOST_TRANSITIONS {
         let more = automata::automaton_of(random, &plan.alphabet, 8);
         automaton.extend(&more[2..]);
     }
-    automaton.truncate(2 + 6 * 255);
+    automaton.truncate(2 + 6 * MOST_TRANSITIONS);
     Plan { automaton, ..plan }.sheet()
 }
 

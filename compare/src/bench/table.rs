@@ -1,10 +1,12 @@
 //! The table of times.
 
+use super::adding;
 use super::lesson;
 use super::practice;
 use super::subjects::Subject;
 use super::timing::best;
 use crate::calls::Engine;
+use crate::generate::additions::Addition;
 use crate::idiomatic::Idiomatic;
 use crate::reference::blackboard::TABLE;
 use crate::reference::facts::Facts;
@@ -16,8 +18,8 @@ use std::hint::black_box;
 /// The candidate whose markings are timed.
 const CANDIDATE: usize = 11;
 
-/// Both ways are timed in turns, so that a slow spell of the machine falls on both.
-const ROUNDS: usize = 5;
+/// All ways are timed in turns, so that a slow spell of the machine falls on all.
+pub const ROUNDS: usize = 5;
 
 #[derive(Clone, Copy)]
 enum Call {
@@ -53,8 +55,20 @@ struct Prepared {
     form: Vec<u8>,
 }
 
+impl Prepared {
+    /// The last transition of the sheet's automaton, to be added to those before it.
+    fn last_added(&self) -> Addition {
+        let (alphabet, automaton) =
+            (&self.facts.sheet.alphabet_body, &self.facts.sheet.automaton_body);
+        let (before, last) = automaton.split_at(automaton.len() - 6);
+        let [alphabet, form, automaton, transition] =
+            [alphabet, &self.form, before, last].map(<[u8]>::to_vec);
+        Addition { alphabet, form, automaton, transition }
+    }
+}
+
 /// One line for each sheet and call, and one for a practice sheet: microseconds, and the engine's
-/// time over the other way's. Behind it comes the table for a lesson.
+/// time over the other way's. Behind it come the table for a lesson and that of added transitions.
 pub fn print(engine: &dyn Engine, subjects: &[Subject]) {
     println!(
         "{:16} {:10} {:>12} {:>12} {:>7} {:>14} {:>9}",
@@ -65,6 +79,8 @@ pub fn print(engine: &dyn Engine, subjects: &[Subject]) {
     println!("{:16} {columns}", practice::NAME);
     println!();
     lesson::print(&rows);
+    println!();
+    adding::print(engine);
 }
 
 /// Prints the lines of a sheet. What they say of the engine is its row in the table for a lesson.
@@ -79,6 +95,9 @@ fn print_sheet(engine: &dyn Engine, subject: &Subject) -> lesson::Row {
     let make_form = print(Call::MakeForm);
     print(Call::Room);
     let evaluate = print(Call::Evaluate);
+    let addition = prepared.last_added();
+    let (_, added) = beside(engine, "add", |engine| adding::time(engine, &addition));
+    println!("{:16} {added}", subject.name);
     let blackboard = print(Call::Blackboard);
     print(Call::Label);
     if prepared.facts.whole.length == 4096 {

@@ -1,6 +1,7 @@
 //! Automata over an alphabet.
 
 use super::random::Random;
+use crate::limits::MOST_TRANSITIONS;
 
 /// A lawful automaton.
 pub fn automaton(random: &mut Random, alphabet: &[u8]) -> Vec<u8> {
@@ -20,8 +21,8 @@ pub fn automaton_of(random: &mut Random, alphabet: &[u8], states: u8) -> Vec<u8>
         transitions.extend(complete(random, alphabet, states));
     }
     let more = match random.below(8) {
-        0 => 255,
-        1 => random.between(0, 255),
+        0 => MOST_TRANSITIONS,
+        1 => random.between(0, MOST_TRANSITIONS),
         2 => 0,
         _ => random.between(0, 20),
     };
@@ -29,10 +30,21 @@ pub fn automaton_of(random: &mut Random, alphabet: &[u8], states: u8) -> Vec<u8>
         transitions.push(transition(random, alphabet, states));
     }
     random.shuffle(&mut transitions);
-    transitions.truncate(255);
+    transitions.truncate(MOST_TRANSITIONS);
     let mut automaton = vec![states, finals];
     automaton.extend(transitions.concat());
     automaton
+}
+
+/// The lawful automaton with just this many transitions, be they too many: without its last ones,
+/// or with more between any of its states.
+pub fn with_count(random: &mut Random, alphabet: &[u8], lawful: &[u8], count: usize) -> Vec<u8> {
+    let mut bytes = lawful.to_vec();
+    bytes.truncate(2 + 6 * count);
+    while bytes.len() < 2 + 6 * count {
+        bytes.extend(transition(random, alphabet, lawful[0]));
+    }
+    bytes
 }
 
 fn transition(random: &mut Random, alphabet: &[u8], states: u8) -> [u8; 6] {
@@ -50,11 +62,11 @@ pub fn transition_of(random: &mut Random, alphabet: &[u8], terminal: usize, stat
     row
 }
 
-/// A transition for each choice of children's states, as far as 255 reach.
+/// A transition for each choice of children's states, as far as the limit reaches.
 fn complete(random: &mut Random, alphabet: &[u8], states: u8) -> Vec<[u8; 6]> {
     let mut transitions = Vec::new();
     for (terminal, &rank) in alphabet.iter().enumerate() {
-        for tuple in 0..usize::from(states).pow(u32::from(rank)).min(255) {
+        for tuple in 0..usize::from(states).pow(u32::from(rank)).min(MOST_TRANSITIONS) {
             let mut row = [0xFF; 6];
             row[0] = terminal as u8;
             row[1] = random.below(usize::from(states)) as u8;
@@ -80,7 +92,7 @@ pub fn damaged(random: &mut Random, automaton: &[u8]) -> Vec<u8> {
         }
         2 => {
             let row = [[0; 6], [0xFF; 6]][random.below(2)];
-            while bytes.len() < 2 + 6 * 256 {
+            while bytes.len() < 2 + 6 * (MOST_TRANSITIONS + 1) {
                 bytes.extend(row);
             }
         }

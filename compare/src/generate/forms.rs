@@ -14,9 +14,11 @@ struct Row {
     slots: [u16; 4],
 }
 
-/// A form in the making: its alphabet, its rules, and the numbers of those of rank 0 and of rank 1.
+/// A form in the making: its alphabet, the terminals that further rules may have, its rules, and
+/// the numbers of those of rank 0 and of rank 1 that further rules may call.
 struct FormPlan<'a> {
     alphabet: &'a [u8],
+    terminals: Vec<u8>,
     rows: Vec<Row>,
     trees: Vec<u16>,
     contexts: Vec<u16>,
@@ -24,7 +26,8 @@ struct FormPlan<'a> {
 
 impl FormPlan<'_> {
     fn over(alphabet: &[u8]) -> FormPlan<'_> {
-        FormPlan { alphabet, rows: Vec::new(), trees: Vec::new(), contexts: Vec::new() }
+        let terminals = (0..alphabet.len() as u8).collect();
+        FormPlan { alphabet, terminals, rows: vec![], trees: vec![], contexts: vec![] }
     }
 
     fn bytes(&self, start: u16) -> Vec<u8> {
@@ -66,13 +69,22 @@ impl FormPlan<'_> {
         self.push(Row { kind: u8::from(hole > 0), terminal, hole, slots })
     }
 
+    /// One more rule with this terminal, which no further rule calls.
+    fn uncalled(&mut self, random: &mut Random, terminal: u8) {
+        let rank = usize::from(self.alphabet[usize::from(terminal)]);
+        let hole = random.below(rank + 1) as u8;
+        self.node(random, terminal, hole);
+        let numbers = if hole > 0 { &mut self.contexts } else { &mut self.trees };
+        numbers.pop();
+    }
+
     /// One more rule, of a kind that the rules so far allow.
     fn grow(&mut self, random: &mut Random) {
         let alphabet = self.alphabet;
-        let mut terminal = random.below(alphabet.len()) as u8;
+        let mut terminal = *random.pick(&self.terminals);
         if alphabet[usize::from(terminal)] == 0 {
             // Leaves are drawn twice, or the trees would stay small.
-            terminal = random.below(alphabet.len()) as u8;
+            terminal = *random.pick(&self.terminals);
         }
         let rank = usize::from(alphabet[usize::from(terminal)]);
         match random.below(4) {
@@ -97,14 +109,19 @@ impl FormPlan<'_> {
     }
 }
 
-/// A lawful form over an alphabet with a terminal of rank 0.
-pub fn form(random: &mut Random, alphabet: &[u8]) -> Vec<u8> {
-    let count = match random.below(16) {
+/// How many rules a form has, often as many as it may.
+pub fn rule_count(random: &mut Random) -> usize {
+    match random.below(16) {
         0 => random.between(2047, 2048),
         1 => random.between(1, 600),
         2 | 3 => random.between(1, 120),
         _ => random.between(1, 30),
-    };
+    }
+}
+
+/// A lawful form over an alphabet with a terminal of rank 0.
+pub fn form(random: &mut Random, alphabet: &[u8]) -> Vec<u8> {
+    let count = rule_count(random);
     let mut plan = FormPlan::over(alphabet);
     let leaves = alphabets::of_rank(alphabet, 0);
     let leaf = *random.pick(&leaves);
@@ -113,6 +130,37 @@ pub fn form(random: &mut Random, alphabet: &[u8]) -> Vec<u8> {
         plan.grow(random);
     }
     let start = *random.pick_late(&plan.trees);
+    plan.bytes(start)
+}
+
+/// A lawful form of so many rules over an alphabet with a terminal of rank 0 beside this one. Only
+/// the last few rules, at most so many, depend on this one, and here and there a rule that nothing
+/// calls.
+pub fn with_few(
+    random: &mut Random,
+    alphabet: &[u8],
+    rare: u8,
+    count: usize,
+    last: usize,
+) -> Vec<u8> {
+    let mut plan = FormPlan::over(alphabet);
+    plan.terminals.retain(|&terminal| terminal != rare);
+    let leaves = alphabets::of_rank(alphabet, 0);
+    let others: Vec<u8> = leaves.into_iter().filter(|&leaf| leaf != rare).collect();
+    let leaf = *random.pick(&others);
+    plan.node(random, leaf, 0);
+    while plan.rows.len() + last < count {
+        plan.grow(random);
+        if plan.rows.len() + last < count && random.one_in(40) {
+            plan.uncalled(random, rare);
+        }
+    }
+    plan.terminals.extend(vec![rare; plan.terminals.len()]);
+    while plan.rows.len() < count {
+        plan.grow(random);
+    }
+    let late = *random.pick_late(&plan.trees);
+    let start = if random.one_in(2) { *random.pick(&plan.trees) } else { late };
     plan.bytes(start)
 }
 

@@ -1,5 +1,6 @@
 //! Inputs to put through the calls: lawful ones of every shape, and damaged ones.
 
+pub mod additions;
 pub mod alphabets;
 pub mod automata;
 pub mod boards;
@@ -11,6 +12,7 @@ pub mod form_damage;
 pub mod form_inputs;
 pub mod forms;
 pub mod head_damage;
+pub mod held;
 pub mod mixed;
 pub mod other_alphabets;
 pub mod plan;
@@ -22,5 +24,6 @@ pub mod sheets;
 pub mod sums;
 pub mod tallies;
 pub mod thinning;
+pub mod transitions;
 pub mod trees;
 pub mod wide_shapes;

@@ -16,6 +16,11 @@ impl Random {
         random
     }
 
+    /// Numbers for something beside, which leave these as they are.
+    pub fn branch(&self) -> Random {
+        Random::new(!self.state)
+    }
+
     pub fn word(&mut self) -> u64 {
         self.state = self.state.wrapping_add(0x9E37_79B9_7F4A_7C15);
         let mut mixed = self.state;

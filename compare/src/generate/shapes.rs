@@ -3,6 +3,7 @@
 use super::automata;
 use super::plan::{Plan, RulePlan};
 use super::random::Random;
+use crate::limits::MOST_TRANSITIONS;
 
 /// a, h, f, g and k of ranks 0 to 4.
 pub const ALPHABET: [u8; 5] = [0, 1, 2, 3, 4];
@@ -98,7 +99,8 @@ fn one_rule(random: &mut Random) -> Vec<RulePlan> {
     vec![RulePlan { rank: 0, nodes: super::trees::tree(random, &ALPHABET, size) }]
 }
 
-/// The longest sheet: 32 terminals, 64 rules of two nodes, 255 transitions.
+/// The longest sheet: 32 terminals, 64 rules of two nodes, and as many transitions as
+/// there may be.
 fn full(random: &mut Random) -> Plan {
     let alphabet: Vec<u8> = (0..32).map(|terminal| terminal % 2).collect();
     let mut rules = vec![rule(1, &[1, 0x80])];
@@ -115,7 +117,7 @@ fn full(random: &mut Random) -> Plan {
     rules.push(rule(0, &[31, 30]));
     let states = random.between(1, 8) as u8;
     let mut automaton = automata::automaton_of(random, &alphabet, states);
-    while automaton.len() < 2 + 6 * 255 {
+    while automaton.len() < 2 + 6 * MOST_TRANSITIONS {
         automaton.extend([0, 0, 0xFF, 0xFF, 0xFF, 0xFF]);
     }
     Plan { alphabet, rules, automaton }

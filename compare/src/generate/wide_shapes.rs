@@ -7,6 +7,7 @@ use super::plan::{Plan, RulePlan};
 use super::random::Random;
 use super::right_side::{Grower, Names};
 use super::shapes::{ALPHABET, last, rule};
+use crate::limits::MOST_TRANSITIONS;
 use std::slice;
 
 /// a, h(a) and f(a, h(a)).
@@ -173,7 +174,7 @@ fn droppers(random: &mut Random) -> Vec<RulePlan> {
 }
 
 /// 64 rules and 128 nodes, most rules of one node: lone parameters of every rank and rules that
-/// drop all arguments; and 255 transitions.
+/// drop all arguments; and as many transitions as there may be.
 fn full(random: &mut Random) -> Plan {
     let mut rules = vec![rule(1, &[0x80])];
     while rules.len() < 63 {
@@ -197,7 +198,7 @@ fn full(random: &mut Random) -> Plan {
     start.push(0);
     rules.push(rule(0, &start));
     let mut plan = finished(random, rules);
-    while plan.automaton.len() < 2 + 6 * 255 {
+    while plan.automaton.len() < 2 + 6 * MOST_TRANSITIONS {
         plan.automaton.extend([0, 0, 0xFF, 0xFF, 0xFF, 0xFF]);
     }
     plan

@@ -4,7 +4,7 @@ use super::checker::Checker;
 use super::difference::Checked;
 use crate::generate::form_inputs::{self, FormInput};
 use crate::generate::random::Random;
-use crate::generate::{alphabets, automata, bytes, damage, practice, sheets, trees};
+use crate::generate::{additions, alphabets, automata, bytes, damage, practice, sheets, trees};
 
 impl Checker<'_> {
     pub fn case(&mut self, random: &mut Random) -> Checked<()> {
@@ -24,7 +24,9 @@ impl Checker<'_> {
             }
             10..=12 => {
                 let FormInput { alphabet, automaton, form } = form_inputs::input(random);
-                self.form(random, &alphabet, &automaton, &form)
+                self.form(random, &alphabet, &automaton, &form)?;
+                let addition = additions::addition(random);
+                self.additions(random, &addition)
             }
             13..=15 => self.tree_case(random),
             _ => {

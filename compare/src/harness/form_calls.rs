@@ -4,6 +4,8 @@ use super::checker::Checker;
 use super::difference::Checked;
 use super::lending::{Lent, around, enough};
 use super::request::Request;
+use crate::generate::additions;
+use crate::generate::form_inputs::FormInput;
 use crate::generate::random::Random;
 use crate::reference::head::rules_behind;
 
@@ -30,7 +32,11 @@ impl Checker<'_> {
             self.labels(random, alphabet, form, size, counts)?;
             self.unfoldings(random, alphabet, form, size, counts)?;
         }
-        self.readings(random, alphabet, form, count)
+        self.readings(random, alphabet, form, count)?;
+        let [alphabet, automaton, form] = [alphabet, automaton, form].map(<[u8]>::to_vec);
+        let random = &mut random.branch();
+        let addition = additions::beside(random, FormInput { alphabet, automaton, form });
+        self.additions(random, &addition)
     }
 
     fn labels(

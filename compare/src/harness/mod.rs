@@ -1,5 +1,6 @@
 //! Puts generated inputs through an engine's calls and compares with the reference.
 
+pub mod adding;
 pub mod blackboard;
 pub mod case;
 pub mod checker;
@@ -11,6 +12,7 @@ pub mod list;
 pub mod making;
 pub mod marking;
 pub mod named;
+pub mod named_adding;
 pub mod named_alphabets;
 pub mod named_blackboard;
 pub mod named_markings;

@@ -55,6 +55,7 @@ impl Checker<'_> {
         self.named_markings(random, &w)?;
         self.named_form_calls(random, &w)?;
         self.named_alphabets(random)?;
+        self.named_adding(random)?;
         self.named_tree_calls(random, &w)?;
         self.named_practice(random)
     }

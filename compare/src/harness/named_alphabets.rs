@@ -76,6 +76,12 @@ pub fn leaves(count: u16, terminals: u8) -> Vec<u8> {
     [head, bytes(A[1]).repeat(count.into())].concat()
 }
 
+/// A transition from state 0 to itself that is lawful over the alphabet, where this is lawful.
+pub fn transition_over(alphabet: &[u8]) -> Vec<u8> {
+    let used = 2 + usize::from(alphabet.first().map_or(0, |&rank| rank.min(4)));
+    [vec![0; used], vec![0xFF; 6 - used]].concat()
+}
+
 impl Checker<'_> {
     pub fn named_alphabets(&mut self, random: &mut Random) -> Checked<()> {
         for (given, carried, around, _) in ALPHABETS {
@@ -95,14 +101,23 @@ impl Checker<'_> {
     }
 
     /// Every call on the form, with slices that suffice and with slices that do not: 18 and 28 come
-    /// before 19 to 21, and what evaluation finds wrong with an automaton comes before both.
+    /// before 19 to 21, and what is wrong with an automaton or a new transition comes before both.
     fn with_slices(&mut self, random: &mut Random, alphabet: &[u8], form: &[u8]) -> Checked<()> {
         let count = rules_behind(form);
         let missing = [1, 0, 0xFF, 0, 0xFF, 0xFF, 0xFF, 0xFF];
+        let lawful = transition_over(alphabet);
         for automaton in [&[1, 0][..], &[1], &[0, 0], &missing] {
+            let evaluate = Request::Evaluate { alphabet, automaton, form };
+            let adds = [&lawful[..], &lawful[..5], &missing[2..]].map(|transition| Request::Add {
+                alphabet,
+                form,
+                automaton,
+                transition,
+            });
             for numbers in [0, count.saturating_sub(1), count + 1] {
-                let lent = Lent::new(random, 0, numbers);
-                self.request(Request::Evaluate { alphabet, automaton, form }, lent)?;
+                for request in [&[evaluate][..], &adds].concat() {
+                    self.request(request, Lent::new(random, 0, numbers))?;
+                }
             }
         }
         let size = Request::Size { alphabet, form };

@@ -7,6 +7,7 @@ use crate::hex::hex;
 #[derive(Clone, Copy)]
 pub enum Request<'a> {
     Evaluate { alphabet: &'a [u8], automaton: &'a [u8], form: &'a [u8] },
+    Add { alphabet: &'a [u8], form: &'a [u8], automaton: &'a [u8], transition: &'a [u8] },
     Unfold { alphabet: &'a [u8], form: &'a [u8] },
     Size { alphabet: &'a [u8], form: &'a [u8] },
     Label { alphabet: &'a [u8], form: &'a [u8], position: u64 },
@@ -24,6 +25,10 @@ impl<'a> Request<'a> {
         match self {
             Request::Evaluate { alphabet, automaton, form } => {
                 engine.evaluate(alphabet, automaton, form, numbers, &mut lent.byte)
+            }
+            Request::Add { alphabet, form, automaton, transition } => {
+                let mask = &mut lent.byte;
+                engine.add_transition(alphabet, form, automaton, transition, numbers, mask)
             }
             Request::Unfold { alphabet, form } => {
                 engine.unfold(alphabet, form, numbers, bytes, &mut lent.length)
@@ -53,6 +58,7 @@ impl<'a> Request<'a> {
     pub fn name(self) -> &'static str {
         match self {
             Request::Evaluate { .. } => "evaluate",
+            Request::Add { .. } => "add_transition",
             Request::Unfold { .. } => "unfold",
             Request::Size { .. } => "size",
             Request::Label { .. } => "label",
@@ -90,6 +96,12 @@ impl<'a> Request<'a> {
             Request::Evaluate { alphabet, automaton, form } => {
                 vec![("alphabet", alphabet), ("automaton", automaton), ("form", form)]
             }
+            Request::Add { alphabet, form, automaton, transition } => vec![
+                ("alphabet", alphabet),
+                ("form", form),
+                ("automaton", automaton),
+                ("transition", transition),
+            ],
             Request::Walk { alphabet, automaton, tree }
             | Request::Wrap { alphabet, tree, automaton } => {
                 vec![("alphabet", alphabet), ("automaton", automaton), ("tree", tree)]

@@ -1,6 +1,7 @@
 //! Transitions, grouped by terminal.
 
 use super::alphabet::Alphabet;
+use crate::limits::MOST_TRANSITIONS;
 use crate::refusal::{Answer, Refusal};
 
 /// A transition of some terminal. Unused children are state 0 and meet the set of all states.
@@ -33,13 +34,22 @@ impl Automaton {
 
     /// The final states and the transitions, where no refusal is given.
     pub fn check<'a>(alphabet: Alphabet, bytes: &'a [u8]) -> Answer<(u8, &'a [[u8; 6]])> {
+        Automaton::check_most(alphabet, bytes, MOST_TRANSITIONS)
+    }
+
+    /// The same where no more than so many transitions are allowed.
+    pub fn check_most<'a>(
+        alphabet: Alphabet,
+        bytes: &'a [u8],
+        most: usize,
+    ) -> Answer<(u8, &'a [[u8; 6]])> {
         let [states, finals, transitions @ ..] = bytes else {
             return Err(Refusal(14));
         };
         let (rows, []) = transitions.as_chunks::<6>() else {
             return Err(Refusal(14));
         };
-        if rows.len() > 255 {
+        if rows.len() > most {
             return Err(Refusal(14));
         }
         if !(1..=8).contains(states) || u16::from(*finals) >> states != 0 {
@@ -81,7 +91,8 @@ impl Automaton {
     }
 }
 
-fn exists(
+/// Whether all that the transition names exists and what is unused is FF.
+pub fn exists(
     alphabet: Alphabet,
     states: u8,
     &[terminal, target, ref children @ ..]: &[u8; 6],

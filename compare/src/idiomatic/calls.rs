@@ -1,5 +1,6 @@
-//! The twelve calls over the parts of this module.
+//! The thirteen calls over the parts of this module.
 
+use super::adding::{add, longer};
 use super::alphabet::Alphabet;
 use super::automaton::Automaton;
 use super::blackboard::{TABLE, blackboard};
@@ -44,6 +45,22 @@ fn evaluated(alphabet: &[u8], automaton: &[u8], form: &[u8], relations: &mut [u6
         return Err(Refusal(19));
     }
     Ok(evaluate(&automaton, &form, relations))
+}
+
+fn added(
+    alphabet: &[u8],
+    form: &[u8],
+    automaton: &[u8],
+    transition: &[u8],
+    relations: &mut [u64],
+) -> Answer<u8> {
+    let alphabet = Alphabet::read(alphabet)?;
+    let (automaton, terminal) = longer(alphabet, automaton, transition)?;
+    let form = Form::read(alphabet, form)?;
+    if relations.len() < form.rules.len() {
+        return Err(Refusal(19));
+    }
+    Ok(add(&automaton, terminal, &form, relations))
 }
 
 fn unfolded(alphabet: &[u8], form: &[u8], lent: &mut [u64], tree: &mut [u8]) -> Answer<usize> {
@@ -123,6 +140,18 @@ impl FixedCalls for Idiomatic {
         mask: &mut u8,
     ) -> u8 {
         settle(evaluated(alphabet, automaton, form, relations), mask)
+    }
+
+    fn add_transition(
+        &self,
+        alphabet: &[u8],
+        form: &[u8],
+        automaton: &[u8],
+        transition: &[u8],
+        relations: &mut [u64],
+        mask: &mut u8,
+    ) -> u8 {
+        settle(added(alphabet, form, automaton, transition, relations), mask)
     }
 
     fn unfold(

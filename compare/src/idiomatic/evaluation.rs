@@ -31,7 +31,8 @@ pub fn evaluate(automaton: &Automaton, form: &Form, relations: &mut [u64]) -> u8
     relations[usize::from(form.start)] as u8
 }
 
-fn relation(automaton: &Automaton, rule: &FormRule, lower: &[u64]) -> u64 {
+/// The relation of a rule by those of the rules below it.
+pub fn relation(automaton: &Automaton, rule: &FormRule, lower: &[u64]) -> u64 {
     match *rule {
         FormRule::Tree { terminal, slots } => automaton.step(terminal, sets(&slots, lower)),
         FormRule::Context { terminal, hole, slots } => {

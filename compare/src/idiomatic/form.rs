@@ -3,6 +3,9 @@
 use super::alphabet::Alphabet;
 use crate::refusal::{Answer, Refusal};
 
+/// The most rules of a form.
+pub const MOST_RULES: usize = 2048;
+
 const UNUSED: u16 = 0xFFFF;
 
 /// The bytes of the head: rule count, start, terminal count and ranks.
@@ -71,7 +74,7 @@ impl<'a> Form<'a> {
         let (rows, []) = body.as_chunks::<12>() else {
             return None;
         };
-        if rows.len() != count || !(1..=2048).contains(&count) {
+        if rows.len() != count || !(1..=MOST_RULES).contains(&count) {
             return None;
         }
         let mut rules = Vec::with_capacity(count);

@@ -1,6 +1,7 @@
 //! The engine's algorithms in idiomatic Rust: what the engine is timed against, and a second
 //! implementation to try the harness on.
 
+mod adding;
 mod alphabet;
 mod automaton;
 mod blackboard;

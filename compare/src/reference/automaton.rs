@@ -1,6 +1,7 @@
 //! A tree automaton: states, final states and transitions.
 
 use super::alphabet::Alphabet;
+use crate::limits::MOST_TRANSITIONS;
 use crate::refusal::{Answer, Refusal};
 
 pub struct Transition {
@@ -19,9 +20,7 @@ pub struct Automaton {
 impl Automaton {
     /// Refusals 14 to 16.
     pub fn read(alphabet: &Alphabet, bytes: &[u8]) -> Answer<Automaton> {
-        if bytes.len() < 2 || !(bytes.len() - 2).is_multiple_of(6) || (bytes.len() - 2) / 6 > 255 {
-            return Err(Refusal(14));
-        }
+        check_length(bytes.len())?;
         let (states, finals) = (bytes[0], bytes[1]);
         if !(1..=8).contains(&states) || (states..8).any(|state| has(finals, state)) {
             return Err(Refusal(15));
@@ -54,7 +53,16 @@ pub fn has(set: u8, state: u8) -> bool {
     set & (1 << state) != 0
 }
 
-fn transition(alphabet: &Alphabet, states: u8, row: &[u8]) -> Option<Transition> {
+/// Refusal 14 of an automaton of so many bytes.
+pub fn check_length(length: usize) -> Answer<()> {
+    if length < 2 || !(length - 2).is_multiple_of(6) || (length - 2) / 6 > MOST_TRANSITIONS {
+        return Err(Refusal(14));
+    }
+    Ok(())
+}
+
+/// The transition of these six bytes, if all that they name exists and what is unused is FF.
+pub fn transition(alphabet: &Alphabet, states: u8, row: &[u8]) -> Option<Transition> {
     let rank = alphabet.rank(row[0])?;
     let (used, unused) = row[2..].split_at(rank);
     let there = row[1] < states

@@ -2,6 +2,7 @@
 //! free. Each checks in the documents' order and writes to what it is lent only when it refuses
 //! nothing.
 
+use super::adding;
 use super::alphabet::Alphabet;
 use super::automaton::Automaton;
 use super::blackboard::Blackboard;
@@ -28,6 +29,22 @@ pub fn evaluate(
     long_enough(relations, entries.len(), 19)?;
     put(relations, &entries);
     Ok(entries[form.start] as u8)
+}
+
+/// The mask by the relations that are carried over to the longer automaton.
+pub fn add_transition(
+    alphabet: &[u8],
+    form: &[u8],
+    automaton: &[u8],
+    transition: &[u8],
+    relations: &mut [u64],
+) -> Answer<u8> {
+    let alphabet = Alphabet::read(alphabet)?;
+    let longer = adding::longer(&alphabet, automaton, transition)?;
+    let form = Form::read_over(&alphabet, form)?;
+    long_enough(relations, form.rules.len(), 19)?;
+    adding::redo(&longer, &form, transition[0], relations);
+    Ok(relations[form.start] as u8)
 }
 
 pub fn unfold(alphabet: &[u8], form: &[u8], counts: &mut [u64], tree: &mut [u8]) -> Answer<usize> {
@@ -128,7 +145,7 @@ pub fn joined(bodies: &[&[u8]; 3]) -> Vec<u8> {
     sheet
 }
 
-/// Refusals 3, 4, 18 and 28 of every call on a form but evaluation.
+/// Refusals 3, 4, 18 and 28 of every call on a form that is given no automaton.
 fn opened(alphabet: &[u8], form: &[u8]) -> Answer<Form> {
     Form::read_over(&Alphabet::read(alphabet)?, form)
 }

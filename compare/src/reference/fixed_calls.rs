@@ -18,6 +18,18 @@ impl FixedCalls for Reference {
         settle(calls::evaluate(alphabet, automaton, form, relations), mask)
     }
 
+    fn add_transition(
+        &self,
+        alphabet: &[u8],
+        form: &[u8],
+        automaton: &[u8],
+        transition: &[u8],
+        relations: &mut [u64],
+        mask: &mut u8,
+    ) -> u8 {
+        settle(calls::add_transition(alphabet, form, automaton, transition, relations), mask)
+    }
+
     fn unfold(
         &self,
         alphabet: &[u8],
@@ -85,6 +97,7 @@ impl FixedCalls for Reference {
         let answer = calls::room(sheet).inspect(|room| *form_bytes = room.form_bytes);
         settle(answer.map(|room| room.numbers), numbers)
     }
+
     fn blackboard(&self, sheet: &[u8], table: &mut [u8], mask: &mut u8) -> u8 {
         settle(calls::blackboard(sheet, table), mask)
     }

@@ -11,6 +11,7 @@ pub enum Child {
     Hole,
 }
 
+#[derive(Clone)]
 pub enum FormRule {
     /// Kinds 0 and 1: a terminal over its children, one of them open in kind 1.
     Node { terminal: u8, children: Vec<Child>, open: bool },
@@ -29,7 +30,7 @@ impl FormRule {
     }
 
     /// The rules that this one calls.
-    fn calls(&self) -> Vec<usize> {
+    pub fn calls(&self) -> Vec<usize> {
         match self {
             FormRule::Node { children, .. } => {
                 let called = |child: &Child| match child {

@@ -1,7 +1,8 @@
-//! Document 01, with of document 02, in the plainest way: everything is
+//! Document 01, with of document 02, in the plainest way: everything is
 //! read into trees and lists, and each meaning is worked out as the documents word it. Speed is no
 //! aim here.
 
+pub mod adding;
 pub mod alphabet;
 pub mod automaton;
 pub mod blackboard;

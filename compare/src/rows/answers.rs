@@ -29,6 +29,7 @@ pub fn answer(call: &Call, stored: &str) -> Result<String, String> {
         Call::Evaluate { alphabet, automaton, form, numbers } => {
             fixed::evaluate(alphabet, automaton, form, *numbers)
         }
+        Call::Add { adding, held, numbers } => fixed::add(adding, held, *numbers),
         Call::Walk { alphabet, automaton, tree, room } => {
             fixed::walk(alphabet, automaton, tree, *room)
         }

@@ -17,10 +17,30 @@ pub enum Call {
     Label { alphabet: Vec<u8>, form: Vec<u8>, position: u64, numbers: usize },
     Unfold { alphabet: Vec<u8>, form: Vec<u8>, numbers: usize, room: usize },
     Evaluate { alphabet: Vec<u8>, automaton: Vec<u8>, form: Vec<u8>, numbers: usize },
+    Add { adding: Adding, held: Vec<u64>, numbers: usize },
     Walk { alphabet: Vec<u8>, automaton: Vec<u8>, tree: Vec<u8>, room: usize },
     Wrap { alphabet: Vec<u8>, tree: Vec<u8>, automaton: Vec<u8>, room: usize },
     Practice { automaton: Vec<u8>, first: u32, m: usize, room: usize },
     Step { step: Step, tally: Tally, candidate: usize },
+}
+
+/// A transition with what it is added to.
+pub struct Adding {
+    pub alphabet: Vec<u8>,
+    pub form: Vec<u8>,
+    pub automaton: Vec<u8>,
+    pub transition: Vec<u8>,
+}
+
+impl Adding {
+    fn read(fields: &mut Fields) -> Option<Adding> {
+        Some(Adding {
+            alphabet: fields.bytes()?,
+            form: fields.bytes()?,
+            automaton: fields.bytes()?,
+            transition: fields.bytes()?,
+        })
+    }
 }
 
 /// The lengths of the slices of form making, evaluation, unfolding and walk in turn.
@@ -56,6 +76,7 @@ impl Call {
                 form_call(name, &mut fields)?
             }
             name @ ("evaluate" | "walk" | "wrap") => tree_call(name, &mut fields)?,
+            "add" => add_call(&mut fields)?,
             "practice" => practice_call(&mut fields)?,
             "accept" => step_call(Step::Accept, &mut fields)?,
             "decline" => step_call(Step::Decline, &mut fields)?,
@@ -118,6 +139,14 @@ fn tree_call(name: &str, fields: &mut Fields) -> Option<Call> {
         }
         "walk" => Call::Walk { alphabet, automaton: second, tree: third, room: fields.room()? },
         _ => Call::Wrap { alphabet, tree: second, automaton: third, room: fields.room()? },
+    })
+}
+
+fn add_call(fields: &mut Fields) -> Option<Call> {
+    Some(Call::Add {
+        adding: Adding::read(fields)?,
+        held: fields.held()?,
+        numbers: fields.numbers()?,
     })
 }
 

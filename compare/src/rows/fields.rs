@@ -51,6 +51,13 @@ impl<'a> Fields<'a> {
         Some(self.number()?.min(MOST_NUMBERS) as usize)
     }
 
+    /// What a slice of numbers holds at first: eight bytes for each number, low byte first. The
+    /// bytes of an incomplete last number are passed over.
+    pub fn held(&mut self) -> Option<Vec<u64>> {
+        let bytes = self.bytes()?;
+        Some(bytes.as_chunks().0.iter().map(|number| u64::from_le_bytes(*number)).collect())
+    }
+
     /// Four bytes for each count, low byte first. Missing bytes are 0, and bytes behind the last
     /// count are passed over.
     pub fn tally(&mut self) -> Option<Tally> {

@@ -1,6 +1,7 @@
 //! The calls whose results the documents fix.
 
-use super::printed::{lent, slice};
+use super::call::Adding;
+use super::printed::{lent, lent_holding, slice};
 use super::words::{room_text, rule_text, said, size_text, told};
 use crate::reference::calls;
 
@@ -52,6 +53,13 @@ pub fn evaluate(alphabet: &[u8], automaton: &[u8], form: &[u8], numbers: usize) 
     let mut relations = lent(numbers);
     let evaluated = calls::evaluate(alphabet, automaton, form, &mut relations);
     said("mask", evaluated) + &slice("relations", &relations)
+}
+
+pub fn add(adding: &Adding, held: &[u64], numbers: usize) -> String {
+    let Adding { alphabet, form, automaton, transition } = adding;
+    let mut relations = lent_holding(numbers, held);
+    let added = calls::add_transition(alphabet, form, automaton, transition, &mut relations);
+    said("mask", added) + &slice("relations", &relations)
 }
 
 pub fn walk(alphabet: &[u8], automaton: &[u8], tree: &[u8], room: usize) -> String {

@@ -28,6 +28,15 @@ pub fn lent<T: Cell>(length: usize) -> Vec<T> {
     vec![T::FILLING; length]
 }
 
+/// A slice that holds these cells at first, as many of them as it has room for.
+pub fn lent_holding<T: Cell>(length: usize, held: &[T]) -> Vec<T> {
+    let mut cells = lent(length);
+    for (cell, held) in cells.iter_mut().zip(held) {
+        *cell = *held;
+    }
+    cells
+}
+
 /// The name and the elements up to the last that is not the filling, then how many are left.
 pub fn slice<T: Cell>(name: &str, cells: &[T]) -> String {
     let last = cells.iter().rposition(|cell| *cell != T::FILLING);

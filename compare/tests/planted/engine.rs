@@ -1,5 +1,6 @@
 //! An engine with one fault.
 
+use crate::adding::{self, Adding};
 use crate::alphabets::{OnForm, fields_one_off};
 use crate::blackboard::Board;
 use crate::marking::Call;
@@ -137,6 +138,7 @@ pub enum Fault {
     RoomReadsNoAutomaton,
     RoomReadsAutomatonFirst,
     WrongBoard(Board),
+    WrongAdding(Adding),
 }
 
 pub struct Planted {
@@ -303,6 +305,22 @@ impl FixedCalls for Planted {
             relations[rules_behind(form)..].fill(0);
         }
         code
+    }
+
+    fn add_transition(
+        &self,
+        alphabet: &[u8],
+        form: &[u8],
+        automaton: &[u8],
+        transition: &[u8],
+        relations: &mut [u64],
+        mask: &mut u8,
+    ) -> u8 {
+        let call = adding::Call { alphabet, form, automaton, transition, relations, mask };
+        match self.fault {
+            Fault::WrongAdding(adding) => adding.put(call),
+            _ => call.right(),
+        }
     }
 
     fn unfold(

@@ -1,5 +1,6 @@
 //! The harness finds planted faults: each engine here is right but for one thing.
 
+mod adding;
 mod alphabets;
 mod blackboard;
 mod composing;
@@ -9,6 +10,7 @@ mod practice;
 mod sums;
 mod wide;
 
+use adding::ADDINGS;
 use blackboard::BOARDS;
 use compare::harness::run::{run_generated, run_named};
 use engine::{Fault, Planted};
@@ -203,6 +205,23 @@ fn the_named_examples_alone_find_every_fault_of_the_blackboard() {
         let difference = difference.unwrap_or_else(|| panic!("{board:?} was not found"));
         assert_eq!(difference.call(), "blackboard", "{board:?}");
         assert!(difference.to_string().contains(words), "{board:?}");
+    }
+}
+
+#[test]
+fn every_planted_fault_of_adding_is_found() {
+    let faults = ADDINGS.map(|(adding, words)| (Fault::WrongAdding(adding), words));
+    found_with_words(&faults.map(|(fault, words)| (fault, "add_transition", words)));
+}
+
+#[test]
+fn the_named_examples_alone_find_every_fault_of_adding() {
+    for (adding, words) in ADDINGS {
+        let difference = run_named(&Planted::new(Fault::WrongAdding(adding)), 5).err();
+        let difference = difference.unwrap_or_else(|| panic!("{adding:?} was not found"));
+        assert_eq!(difference.call(), "add_transition", "{adding:?}");
+        let told = difference.to_string();
+        assert!(told.contains(words), "{adding:?}\n{told}");
     }
 }
 

@@ -19,7 +19,7 @@ fn the_sample_has_every_call() {
     let (input, output) = sample();
     let found = differences(&input, &output);
     assert!(found.is_empty(), "{}", found.join("\n"));
-    assert_eq!(line::count(&input), 73);
+    assert_eq!(line::count(&input), 83);
 }
 
 /// What is found after the first such text behind the row's name was changed in the output.
@@ -59,6 +59,9 @@ fn a_changed_answer_is_found() {
     planted("even", "written 30", "written 31");
     planted("27", "refused 27", "refused 14");
     planted("28", "refused 28", "refused 18");
+    planted("added", "mask 2", "mask 0");
+    planted("not touched", "mask 52", "mask 180");
+    planted("29", "refused 29", "refused 14");
 }
 
 #[test]
@@ -75,6 +78,10 @@ fn a_changed_slice_is_found() {
     planted("short board", "; table 12287 kept", "; table 4096*00, 8191 kept");
     planted("odd", "40 80 00", "00 40 80");
     planted("28", "; counts 12 kept", "; counts 1, 11 kept");
+    planted("added", "relations 1 2 7", "relations 1 0 7");
+    planted("added", "7, 1 kept", "0, 1 kept");
+    planted("later bits", "relations 102", "relations 2");
+    planted("29", "relations 7", "relations 0");
     planted("24 of practice", "; sheet 29 kept", "; sheet 0c, 28 kept");
 }
 
@@ -101,7 +108,7 @@ fn a_line_too_few_or_too_many_is_found() {
     for missing in 0..lines.len() {
         let left = [&lines[..missing], &lines[missing + 1..]].concat().join("\n");
         let found = differences(&input, &left);
-        assert!(found[0].contains("expected 76 lines\nfound    75"), "{}", found[0]);
+        assert!(found[0].contains("expected 86 lines\nfound    85"), "{}", found[0]);
     }
     assert_eq!(differences(&input, &format!("{output}more\n")).len(), 1);
     assert_eq!(differences(&input, output.trim_end()).len(), 1);

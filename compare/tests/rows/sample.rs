@@ -12,6 +12,10 @@ const FORM: &str = "\
     060005000300020100000000FFFFFFFFFFFFFFFF01020100FFFFFFFFFFFFFFFF03FF000001000100FFFFFFFF\
     03FF000002000200FFFFFFFF02FF000003000000FFFFFFFF0001000004000000FFFFFFFF";
 
+/// The form {a; h(rule 0)}.
+const CALLED: &str = "\
+    020001000300020100000000FFFFFFFFFFFFFFFF000200000000FFFFFFFFFFFF";
+
 /// What is left of the slices after it was made, evaluated and counted, but for the kept elements.
 const MADE: &str = "\
     form 06 00 05 00 03 00 02 01 00 00 00 00 ff ff ff ff ff ff ff ff \
@@ -149,6 +153,38 @@ const FORM_CALLS: [(&str, &str); 13] = [
     ("28 of rules: rules 00020100 $form", "28 of rules: refused 28"),
 ];
 
+const ADDITIONS: [(&str, &str); 8] = [
+    (
+        "added: add $alphabet $called 0201+0000FFFFFFFF 020100FFFFFF 01+15*00+07+7*00 4",
+        "added: mask 2; relations 1 2 7, 1 kept",
+    ),
+    (
+        "later bits: add $alphabet $called 0201+0000FFFFFFFF 020100FFFFFF 0201+6*00+FFFF+6*00 2",
+        "later bits: mask 0; relations 102 0, 0 kept",
+    ),
+    (
+        "not touched: add $alphabet $called 0201+0000FFFFFFFF 01000000FFFF 05+7*00+3412+6*00 2",
+        "not touched: mask 52; relations 5 1234, 0 kept",
+    ),
+    (
+        "half a number: add $alphabet $called 0201+0000FFFFFFFF 01000000FFFF 05+7*00+7*00 3",
+        "half a number: mask 165; relations 5, 2 kept",
+    ),
+    (
+        "beyond the slice: add $alphabet $called 0201 0000FFFFFFFF 24*FF 2",
+        "beyond the slice: mask 0; relations 1 0, 0 kept",
+    ),
+    ("29: add $alphabet $called 0201 00 07+7*00 2", "29: refused 29; relations 7, 1 kept"),
+    (
+        "14 of a full one: add $alphabet 00 0901+255*0000FFFFFFFF - - 1",
+        "14 of a full one: refused 14; relations 1 kept",
+    ),
+    (
+        "many numbers: add $alphabet $called 0201 0000FFFFFFFF - 99999",
+        "many numbers: mask 0; relations 1 0, 4094 kept",
+    ),
+];
+
 const TREE_CALLS: [(&str, &str); 5] = [
     ("walk: walk $alphabet 0201+$transitions 01+4*02+2*00 8", "walk: mask 1; $masks, 1 kept"),
     ("20 h: walk $alphabet 0201 20*02+00 22", "20 h: mask 0; masks 21*00, 1 kept"),
@@ -180,7 +216,7 @@ const STEPS: [(&str, &str); 7] = [
     ("nobody and no count: accept - 256", "nobody and no count: refused 26, tally"),
 ];
 
-const UNREADABLE: [(&str, &str); 14] = [
+const UNREADABLE: [(&str, &str); 16] = [
     ("half a byte: line 0", "half a byte: unreadable"),
     ("small letters: line 0c", "small letters: unreadable"),
     ("no such call: lines 00", "no such call: unreadable"),
@@ -190,6 +226,8 @@ const UNREADABLE: [(&str, &str); 14] = [
     ("a room beside the sheet: room 00 212", "a room beside the sheet: unreadable"),
     ("no room for a board: blackboard 00", "no room for a board: unreadable"),
     ("two rooms for a board: blackboard 00 1 2", "two rooms for a board: unreadable"),
+    ("nothing held: add 00 00 00 00 4", "nothing held: unreadable"),
+    ("too much of adding: add 00 00 00 00 00 4 4", "too much of adding: unreadable"),
     ("no number: accept 03 x", "no number: unreadable"),
     ("three counts: accept 3 1 2", "three counts: unreadable"),
     ("no room: practice 0100 0 1", "no room: unreadable"),
@@ -199,7 +237,8 @@ const UNREADABLE: [(&str, &str); 14] = [
 
 /// The input and the output.
 pub fn sample() -> (String, String) {
-    let calls = [&SHEET_CALLS[..], &MARKINGS, &FORM_CALLS, &TREE_CALLS, &PRACTICE, &STEPS];
+    let on_forms = [&FORM_CALLS[..], &ADDITIONS].concat();
+    let calls = [&SHEET_CALLS[..], &MARKINGS, &on_forms, &TREE_CALLS, &PRACTICE, &STEPS];
     let parts = [&HEADINGS[..], &calls.concat(), &UNREADABLE];
     let (rows, lines): (Vec<&str>, Vec<&str>) = parts.concat().into_iter().unzip();
     (filled(&rows.join("\n")) + "\n", filled(&lines.join("\n")) + "\n")
@@ -213,6 +252,7 @@ fn filled(text: &str) -> String {
         ("$rules", RULES),
         ("$transitions", TRANSITIONS),
         ("$form", FORM),
+        ("$called", CALLED),
         ("$made", MADE),
         ("$relations", RELATIONS),
         ("$counts", COUNTS),

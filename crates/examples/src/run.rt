@@ -1,4 +1,5 @@
 // Running a row that was read: its call is lent a slice of bytes and one of numbers, which are printed behind the answer.
+use adding::add::add_transition;
 use blackboard::blackboard;
 use counted_marking::mark::mark;
 use evaluation::evaluate::evaluate;
@@ -26,8 +27,10 @@ use rows::lend::BYTE;
 use rows::lend::MOST_BYTES;
 use rows::lend::MOST_NUMBERS;
 use rows::lend::NUMBER;
+use rows::lend::hold;
 use rows::lend::within;
 use rows::names::ACCEPT;
+use rows::names::ADD;
 use rows::names::BLACKBOARD;
 use rows::names::CERTIFY;
 use rows::names::DECLINE;
@@ -92,6 +95,7 @@ fn count_of(call: usize, n: [usize; 9]) -> usize {
     match call {
         CERTIFY | SIZE | UNFOLD => n[4],
         MARK | EVALUATE | LABEL => n[5],
+        ADD => n[7],
         _ => 0,
     }
 }
@@ -111,7 +115,7 @@ fn name_of_bytes(call: usize) -> usize {
 // The name of the slice of numbers.
 fn name_of_numbers(call: usize) -> usize {
     match call {
-        MARK | CERTIFY | EVALUATE => words::RELATIONS,
+        MARK | CERTIFY | EVALUATE | ADD => words::RELATIONS,
         SIZE | LABEL | UNFOLD => words::COUNTS,
         _ => words::NOTHING,
     }
@@ -128,6 +132,7 @@ fn answer(
     a: &[u8],
     b: &[u8],
     c: &[u8],
+    d: &[u8],
     n: [usize; 9],
     bytes: &mut [u8],
     numbers: &mut [u64],
@@ -141,6 +146,7 @@ fn answer(
         RULE => say_reading(read(a, b, rule_number(n[4]))),
         RULES => say_rules(a, b),
         EVALUATE => say_mask(evaluate(a, b, c, numbers)),
+        ADD => say_mask(add_transition(a, b, c, d, numbers)),
         SIZE => say_size(size(a, b, numbers)),
         LABEL => say_label(label(a, b, n[4] as u64, numbers)),
         UNFOLD => say_length(unfold(a, b, numbers, bytes)),
@@ -151,14 +157,16 @@ fn answer(
     }
 }
 
-fn run_call(call: usize, a: &[u8], b: &[u8], c: &[u8], n: [usize; 9]) {
+// Lends what a call asks for, its numbers holding at first those that the row gives.
+fn run_call(call: usize, a: &[u8], b: &[u8], c: &[u8], d: &[u8], held: &[u8], n: [usize; 9]) {
     let mut bytes = [BYTE; MOST_BYTES];
     let mut numbers = [NUMBER; MOST_NUMBERS];
     let room = within(room_of(call, n), MOST_BYTES);
     let count = within(count_of(call, n), MOST_NUMBERS);
     let lent_bytes = &mut bytes[0..room];
     let lent_numbers = &mut numbers[0..count];
-    answer(call, a, b, c, n, lent_bytes, lent_numbers);
+    hold(held, lent_numbers);
+    answer(call, a, b, c, d, n, lent_bytes, lent_numbers);
     show_bytes(name_of_bytes(call), lent_bytes);
     show_numbers(name_of_numbers(call), lent_numbers);
     put(b'\n');
@@ -172,7 +180,13 @@ fn run_fields(call: usize, bytes: &[u8], ends: [usize; 9], n: [usize; 9]) {
     }
     let b = part(bytes, ends[2], ends[3]);
     let c = part(bytes, ends[3], ends[4]);
-    run_call(call, a, b, c, n);
+    if call == ADD {
+        let d = part(bytes, ends[4], ends[5]);
+        let held = part(bytes, ends[5], ends[6]);
+        run_call(call, a, b, c, d, held, n);
+        return;
+    }
+    run_call(call, a, b, c, &[], &[], n);
 }
 
 // Runs the call of a row, and ends the line.

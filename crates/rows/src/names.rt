@@ -36,6 +36,8 @@ pub const PRACTICE: usize = 0x7072_6163_7469_6365;
 
 pub const BLACKBOARD: usize = 0x6163_6B62_6F61_7264;
 
+pub const ADD: usize = 0x61_6464;
+
 // What is no call.
 pub const NONE: usize = 0;
 
@@ -45,6 +47,7 @@ pub fn first_number(call: usize) -> usize {
         LINE | ROOM | MAKE | CERTIFY | ACCEPT | DECLINE | TURN_AWAY | PRACTICE | BLACKBOARD => 3,
         MARK | RULE | RULES | SIZE | LABEL | UNFOLD => 4,
         EVALUATE | WALK | WRAP => 5,
+        ADD => 7,
         _ => 2,
     }
 }
@@ -57,7 +60,7 @@ pub fn fields_of(call: usize) -> usize {
         RULE | SIZE => 5,
         EVALUATE | LABEL | UNFOLD | WALK | WRAP | PRACTICE => 6,
         MARK => 7,
-        CERTIFY => 8,
+        CERTIFY | ADD => 8,
         _ => 0,
     }
 }
