@@ -35,7 +35,7 @@ const MOST_CELLS: usize = 4 + 4 * MOST_NODES;
 pub const SPACE: usize = FIELDS * MOST_CELLS;
 
 // What a cell is: a parameter, counted from 0; a rule of rank 0; a rule of rank 1 over a cell; a terminal over so many cells.
-#[derive(Drop)]
+#[derive(Clone, Copy)]
 pub enum Cell {
     Parameter(u16),
     Closed(Rule),

@@ -1,3 +1,5 @@
 // Cells, each of which represents a skeleton tree, beside the rules of the form that are made.
+#![tactic(auto)]
+
 pub mod cells;
 pub mod state;

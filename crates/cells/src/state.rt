@@ -8,14 +8,14 @@ use form_writing::write::write_rule;
 use terms::Rule;
 
 // The numbers of the next rule and the next cell.
-#[derive(Drop)]
+#[derive(Clone, Copy)]
 pub struct Free {
     pub rule: Rule,
     pub cell: u16,
 }
 
 // The cell that a step made, and what is free then.
-#[derive(Drop)]
+#[derive(Clone, Copy)]
 pub struct Made {
     pub free: Free,
     pub cell: u16,

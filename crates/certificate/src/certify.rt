@@ -13,7 +13,7 @@ use terms::answers::{LengthAnswer, MaskAnswer};
 use unfolding::unfold::unfold;
 
 // What the four calls answer.
-#[derive(Drop)]
+#[derive(Clone, Copy)]
 pub struct Answers {
     pub made: LengthAnswer,
     pub evaluated: MaskAnswer,

@@ -1,3 +1,5 @@
 // Cleaning the rules of a sheet before a form is made of them: dropped arguments and calls of lone parameters go, and no node is added.
+#![tactic(auto)]
+
 pub mod clean;
 mod sift;

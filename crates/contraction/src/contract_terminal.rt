@@ -11,7 +11,7 @@ use form_bytes::rule::FormRule;
 use terms::{Rule, Terminal};
 
 // Which of a terminal's children are open.
-#[derive(Drop)]
+#[derive(Clone, Copy)]
 pub enum Open {
     Nowhere,
     At(u8),

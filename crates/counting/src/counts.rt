@@ -29,7 +29,7 @@ pub const FEW_RULES: usize = 128;
 pub const FEW_COUNTS: usize = COUNTS * FEW_RULES;
 
 // The counts of a rule.
-#[derive(Drop)]
+#[derive(Clone, Copy)]
 struct Counts {
     own: u64,
     before: u64,

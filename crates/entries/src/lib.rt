@@ -1,2 +1,4 @@
 // The entries of the rules of a table: sets of states and relations.
+#![tactic(auto)]
+
 pub mod entry;

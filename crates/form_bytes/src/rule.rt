@@ -7,7 +7,7 @@ use crate::layout::RULE;
 use terms::{Rule, Terminal};
 
 // What the bytes of a rule say. The kind says which fields are used.
-#[derive(Drop)]
+#[derive(Clone, Copy)]
 pub struct FormRule {
     pub kind: u8,
     pub terminal: Terminal,

@@ -1,3 +1,5 @@
 // The check of a one-hole form.
+#![tactic(auto)]
+
 pub mod check;
 pub mod head;

@@ -3,7 +3,7 @@ ghost use Rattle.std.specs.Prelude.{◌≡◌, ◌<◌, length};
 ghost use Rattle.grammars.specs.Cursor.{span_at};
 
 // The rank of a rule, and where its nodes start and end. The next rule's rank stands where they end.
-#[derive(Drop)]
+#[derive(Clone, Copy)]
 pub struct Span {
     pub rank: u8,
     pub start: usize,

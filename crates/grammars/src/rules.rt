@@ -13,14 +13,14 @@ use nodes::wholes::{Wholes, is_one, taking};
 use terms::Rule;
 
 // How many rules a body has, and how many nodes.
-#[derive(Drop)]
+#[derive(Clone, Copy)]
 pub struct Counts {
     pub rules: usize,
     pub nodes: usize,
 }
 
 // What the check of a rule answers.
-#[derive(Drop)]
+#[derive(Clone, Copy)]
 pub enum RuleAnswer {
     Refused(u8),
     // the nodes may take so many rules of a form
@@ -28,7 +28,7 @@ pub enum RuleAnswer {
 }
 
 // What reading the rules answers.
-#[derive(Drop)]
+#[derive(Clone, Copy)]
 pub enum Rules {
     Refused(u8),
     // how many rules there are, and how many a form of them may take

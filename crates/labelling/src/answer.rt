@@ -2,7 +2,7 @@
 use terms::Terminal;
 
 // The terminal at a position.
-#[derive(Drop)]
+#[derive(Clone, Copy)]
 pub enum Label {
     Refused(u8),
     At(Terminal),

@@ -1,4 +1,6 @@
 // How much form making and marking ask to be lent for a sheet.
+#![tactic(auto)]
+
 ghost use Rattle.std.specs.Prelude.{◌≡◌};
 ghost use Rattle.terms.specs.Answer.{answer};
 ghost use Rattle.terms.specs.Check.{sheet_refusal};
@@ -9,7 +11,7 @@ use form_bytes::layout::form_length;
 use sheets::sheet::{Reading, read_sheet};
 
 // What is answered to how much a sheet asks for.
-#[derive(Drop)]
+#[derive(Clone, Copy)]
 pub enum RoomAnswer {
     Refused(u8),
     // bytes for the form, and numbers for its relations

@@ -19,7 +19,7 @@ use sizing::size::size;
 const LONGEST_FORM: usize = layout::RANKS_OFFSET + MOST_TERMINALS + layout::RULE * MOST_ASKED;
 
 // The refusal, or the mask and the size, for which the largest number of 64 bits stands where it is over.
-#[derive(Drop)]
+#[derive(Clone, Copy)]
 pub enum Line {
     Refused(u8),
     Accepted(u8, u64),

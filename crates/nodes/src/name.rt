@@ -15,7 +15,7 @@ pub const FIRST_PARAMETER: u8 = 0x80;
 
 const PAST_PARAMETERS: u8 = 0x84;
 
-#[derive(Drop)]
+#[derive(Clone, Copy)]
 pub enum Name {
     Terminal(Terminal),
     Nonterminal(Rule),

@@ -4,7 +4,7 @@ ghost use Rattle.terms.specs.Tree.{taking};
 ghost use Rattle.terms.specs.Check.{is_one};
 ghost use Rattle.nodes.specs.Nodes.{counting, trees_in};
 
-#[derive(Drop)]
+#[derive(Clone, Copy)]
 pub enum Wholes {
     Exactly(usize),
     // a symbol lacks children

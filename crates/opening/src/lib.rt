@@ -1,4 +1,6 @@
 // Opening a one-hole form, which is done once, and reading its rules by number.
+#![tactic(auto)]
+
 ghost use Rattle.std.specs.Prelude.{◌≡◌};
 ghost use Rattle.terms.specs.Calls.{opening_refusal};
 ghost use Rattle.opening.specs.Reading.{answer_of_rule, rule_reading};
@@ -13,7 +15,7 @@ use terms::Rule;
 const NO_RULE: u8 = 21;
 
 // What reading a rule answers: the refusal, or the rule.
-#[derive(Drop)]
+#[derive(Clone, Copy)]
 pub enum RuleReading {
     Refused(u8),
     Read(FormRule),
@@ -29,7 +31,7 @@ pub struct OpenForm<'a> {
 }
 
 // What the check of a form finds: how many rules can be read, none where it is refused, and the refusal.
-#[derive(Drop)]
+#[derive(Clone, Copy)]
 pub struct Opening {
     pub rules: usize,
     pub refusal: u8,

@@ -9,14 +9,14 @@ use form_bytes::rule::{hole_of, kind_of, slot_of, terminal_of};
 use terms::{Rule, Terminal};
 
 // A rule and a position in preorder of its own symbols.
-#[derive(Drop)]
+#[derive(Clone, Copy)]
 pub struct Place {
     pub rule: Rule,
     pub position: u64,
 }
 
 // What stands at a place: a terminal of the rule itself, or what stands at a place of a lower rule.
-#[derive(Drop)]
+#[derive(Clone, Copy)]
 pub enum Found {
     At(Terminal),
     In(Place),

@@ -33,7 +33,7 @@ const MOST_DRAWN_LENGTH: usize = 6;
 pub const LONGEST_RULES: usize = FIRST_LENGTH + MOST_DRAWN_LENGTH * MOST_DRAWN + LAST_LENGTH;
 
 // How far the rules are drawn: the number that the generator has come to, and where the bytes end.
-#[derive(Drop)]
+#[derive(Clone, Copy)]
 pub struct Progress {
     pub x: u32,
     pub end: usize,

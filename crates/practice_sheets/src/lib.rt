@@ -1,2 +1,4 @@
 // Practice sheets by number.
+#![tactic(auto)]
+
 pub mod practice;

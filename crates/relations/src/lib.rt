@@ -1,5 +1,7 @@
 // Relations on eight states, a number of 64 bits each: bit 8 * p + q says that p goes to q.
 // Each is worked on whole, in lanes read from the table: no branch and no loop's end depends on a bit (document 02, R-4), which `link/pace` tests.
+#![tactic(auto)]
+
 ghost use Rattle.std.specs.Prelude.{◌≡◌, ◌&&◌};
 ghost use Rattle.terms.specs.Automaton.{has};
 ghost use Rattle.terms.specs.Relation.{matrix, related, compose_bits, apply_bits};

@@ -9,7 +9,7 @@ use terms::answers::LengthAnswer;
 use unfolding::unfold::unfold;
 
 // What the three calls answer.
-#[derive(Drop)]
+#[derive(Clone, Copy)]
 pub struct Restoring {
     pub written: LengthAnswer,
     pub made: LengthAnswer,

@@ -9,7 +9,7 @@ use grammars::cursor::span_at;
 use terms::Rule;
 
 // How many rules a form has, as the number of the rule that would be next, and its start.
-#[derive(Drop)]
+#[derive(Clone, Copy)]
 pub struct Whole {
     pub count: Rule,
     pub start: Rule,

@@ -1,4 +1,6 @@
 // The check of one rule in the table of a form against an alphabet, for any bytes.
+#![tactic(auto)]
+
 ghost use Rattle.std.specs.Prelude.{◌≡◌, ◌+◌, ◌*◌, ◌≤◌, length};
 ghost use Rattle.terms.specs.Grammar.{terminal_rank};
 ghost use Rattle.terms.specs.FormBytes.{rule_length, chain_fits, kind_fits, rule_fits};

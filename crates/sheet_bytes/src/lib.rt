@@ -1,2 +1,4 @@
 // The bytes of a sheet, as they are written.
+#![tactic(auto)]
+
 pub mod write;

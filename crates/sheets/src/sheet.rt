@@ -15,7 +15,7 @@ use grammars::rules::{Rules, read_rules};
 // Where the bodies of a sheet lie, and how much they hold: the alphabet follows the contents with a byte for each
 // terminal, the rules follow the alphabet, and the automaton follows the rules to the end. A form of the sheet may take
 // so many rules as are asked.
-#[derive(Drop)]
+#[derive(Clone, Copy)]
 pub struct Layout {
     pub terminals: usize,
     pub rules: usize,
@@ -23,7 +23,7 @@ pub struct Layout {
     pub automaton: usize,
 }
 
-#[derive(Drop)]
+#[derive(Clone, Copy)]
 pub enum Reading {
     Refused(u8),
     Sheet(Layout),

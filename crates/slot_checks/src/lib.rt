@@ -1,4 +1,6 @@
 // The checks of the slots of a rule in the table of a form, for any bytes.
+#![tactic(auto)]
+
 ghost use Rattle.std.specs.Prelude.{◌≡◌, ◌+◌, ◌*◌, ◌<◌, ◌≤◌, length};
 ghost use Rattle.terms.specs.FormBytes.{rule_length, slot_of, calls_lower, unused_slot, slot_fits, slots_fit};
 

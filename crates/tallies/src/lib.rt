@@ -1,2 +1,4 @@
 // The tally of sixteen candidates, and its steps.
+#![tactic(auto)]
+
 pub mod tally;

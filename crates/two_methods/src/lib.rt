@@ -7,7 +7,7 @@ use certificate::certify::{Answers, certify};
 use terms::answers::MaskAnswer;
 
 // What both methods answer.
-#[derive(Drop)]
+#[derive(Clone, Copy)]
 pub struct BothAnswers {
     pub tabled: MaskAnswer,
     pub certified: Answers,

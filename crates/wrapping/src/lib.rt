@@ -1,2 +1,4 @@
 // Wrapping a plain tree into a sheet.
+#![tactic(auto)]
+
 pub mod wrap;

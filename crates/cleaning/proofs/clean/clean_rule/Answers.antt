@@ -1,0 +1,16 @@
+-- `cleaning::clean::clean_rule` meets its contract: rank and count are put before the nodes, which are cleaned behind their places.
+use mathlib.Core.Path.{refl}
+use Prim.Native.Nat.{◌<◌}
+use native.Mathlib.Omega.{arith}
+use borrow.Author.Rules.{rules}
+use lib.ListN.{length-set}
+use Rattle.terms.specs.Check.{most_rules}
+use Rattle.cleaning.proofs.OneRule.{number-few, rank-few, still_long, rule-cleaned}
+use Rattle.cleaning.proofs.Parts.{part_long}
+use Rattle.cleaning.proofs.clean.clean_rule.Goals as goal
+
+pub returns : goal.returns
+returns c =
+    let d = c.clean_nodes-kept.ensures in
+    let size = part_long 2 c.args.out.now in
+    rule-cleaned c.args.out.now c.requires.0 size d c.present_before.ensures refl (omega (arith, d.short, c.requires.1.fits))

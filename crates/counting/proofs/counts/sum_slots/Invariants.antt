@@ -1,0 +1,15 @@
+-- `counting::counts::sum_slots` meets its contract. The invariant: the sum is that of the slots from j on, capped.
+use mathlib.Core.Path.{◌≡◌, sym, ◌∙◌, ap}
+use Prim.Native.Nat.{ℕ, ◌+◌, ◌-◌, ◌≤◌, ◌<◌}
+use native.Mathlib.Omega.{arith}
+use Rattle.terms.specs.FormBytes.{slot_of}
+use Rattle.terms.specs.Count.{capped}
+use Rattle.counting.specs.Private.Counts.{total, own_in, slots_from}
+use Rattle.counting.proofs.Slots.{slots-none, slots-back}
+use Rattle.counting.proofs.counts.sum_slots.Given as goal
+
+abbrev pub invariant-loop-j : goal.invariant-loop-j
+invariant-loop-j l = (l.from ≤ l.j) × (l.j ≤ l.to) × (l.sum ≡ capped (total (own_in l.counts) (slots_from (slot_of l.table l.rule.0) l.j l.to)))
+
+abbrev pub decreases-loop-j : goal.decreases-loop-j
+decreases-loop-j l = l.j

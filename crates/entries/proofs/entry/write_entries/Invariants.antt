@@ -1,0 +1,13 @@
+-- `entries::entry::write_entries` meets its contract. The invariant: writing what is left gives what writing all gives.
+use mathlib.Core.Path.{◌≡◌}
+use Prim.Native.Nat.{◌-◌, ◌≤◌}
+use lib.ListN.{length}
+use Rattle.entries.specs.Evaluable.{written_from}
+use Rattle.entries.proofs.entry.write_entries.Given as goal
+
+abbrev pub invariant-loop-number : goal.invariant-loop-number
+invariant-loop-number l = (written_from l.alphabet l.automaton l.table l.initial.number (l.end - l.initial.number) l.initial.relations ≡ written_from l.alphabet l.automaton l.table l.number (l.end - l.number) l.relations)
+    × (l.number ≤ l.end) × (length l.relations ≡ length l.initial.relations)
+
+abbrev pub decreases-loop-number : goal.decreases-loop-number
+decreases-loop-number l = l.end - l.number

@@ -1,0 +1,8 @@
+-- `relations::apply` meets its contract: `pairs` picks the rows of the states, and the folds join them.
+use borrow.Author.Rules.{rules}
+use Rattle.relations.proofs.Fold.{joined, joined_is}
+use Rattle.relations.proofs.apply.Goals as goal
+
+pub returns : goal.returns
+unfolding joined
+returns c = joined_is c.args.relation c.args.states c.pairs.result c.pairs.ensures
