@@ -1,9 +1,8 @@
 -- `counting::counts::copy_counts` meets its contract. The invariant: the first i numbers are copied, and those behind them are as they were.
-use mathlib.Core.Path.{◌≡◌, refl}
+use mathlib.Core.Path.{◌≡◌}
 use Prim.Native.Nat.{◌-◌, ◌≤◌}
-use native.Mathlib.Omega.{arith}
-use lib.ListN.{length, length-set}
-use Rattle.counting.proofs.Front.{front, front-more}
+use lib.ListN.{length}
+use Rattle.counting.proofs.Front.{front}
 use Rattle.counting.proofs.counts.copy_counts.Given as goal
 
 abbrev pub invariant-loop-i : goal.invariant-loop-i

@@ -1,16 +1,11 @@
 use mathlib.Core.Path.{◌≡◌, refl, sym, ◌∙◌}
-use mathlib.Core.List.{◌++◌}
-use Prim.Native.Nat.{◌*◌, ◌-◌, ◌≤◌}
 use native.Mathlib.Numerals.{add-one}
 use native.Mathlib.Omega.{arith}
-use lib.ListN.{length, drop}
-use lib.Seq.{take_at}
 use Rattle.terms.specs.Test.{joined}
 use Rattle.terms.specs.FormBytes.{table_rules}
-use Rattle.terms.specs.Calls.{counts_per_rule, rules_counts}
-use Rattle.counting.specs.Private.Counts.{counts_below}
+use Rattle.terms.specs.Calls.{rules_counts}
 use Rattle.forms.proofs.Rules.{rules-counted}
-use Rattle.counting.proofs.Counted.{length-below, counts-more}
+use Rattle.counting.proofs.Counted.{counts-more}
 use Rattle.counting.proofs.counts.count_nodes.Goals as goal
 
 pub loop-number-init : goal.loop-number-init
@@ -22,7 +17,7 @@ loop-number-preserved c =
     let rules = table_rules c.args.alphabet.now c.args.table.now in (
       omega arith,
       c.count_rule.ensures ∙ rw (c.loop-number.invariant.1, add-one) (counts-more rules c.args.counts.now c.loop-number.number (omega arith)),
-      c.count_rule.auto.1.1.0 ∙ c.loop-number.invariant.2,
+      c.count_rule.auto.counts ∙ c.loop-number.invariant.2,
     )
 
 pub returns : goal.returns

@@ -1,17 +1,11 @@
 -- `counting::counts::count_nodes` meets its contract. The invariant: the counts of the rules below the present one are written, and the numbers behind them are as they were.
-use mathlib.Core.Path.{◌≡◌, refl, sym, ◌∙◌}
+use mathlib.Core.Path.{◌≡◌}
 use mathlib.Core.List.{◌++◌}
 use Prim.Native.Nat.{◌*◌, ◌-◌, ◌≤◌}
-use native.Mathlib.Numerals.{add-one}
-use native.Mathlib.Omega.{arith}
 use lib.ListN.{length, drop}
-use lib.Seq.{take_at}
-use Rattle.terms.specs.Test.{joined}
 use Rattle.terms.specs.FormBytes.{table_rules}
-use Rattle.terms.specs.Calls.{counts_per_rule, rules_counts}
+use Rattle.terms.specs.Calls.{counts_per_rule}
 use Rattle.counting.specs.Private.Counts.{counts_below}
-use Rattle.forms.proofs.Rules.{rules-counted}
-use Rattle.counting.proofs.Counted.{length-below, counts-more}
 use Rattle.counting.proofs.counts.count_nodes.Given as goal
 
 abbrev pub invariant-loop-number : goal.invariant-loop-number

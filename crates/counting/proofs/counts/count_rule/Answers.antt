@@ -1,7 +1,5 @@
 -- `counting::counts::count_rule` meets its contract: what the counts of lower rules say of the rule is what it derives.
 use mathlib.Core.Path.{◌∙◌, ap}
-use native.Mathlib.Omega.{arith}
-use borrow.Author.Rules.{rules}
 use Rattle.counting.specs.Private.Counts.{counts_written}
 use Rattle.counting.proofs.Counted.{counted-rule}
 use Rattle.counting.proofs.counts.count_rule.Goals as goal

@@ -1,15 +1,13 @@
 -- `counting::counts::rule_counts` meets its contract: kinds 0 and 1 are counted by their slots, kinds 2 and 3 by B and C.
 use mathlib.Core.Path.{◌≡◌, refl, sym, ◌∙◌}
 use mathlib.Core.List.{List}
-use Prim.Native.Nat.{ℕ, ◌+◌, ◌*◌, ◌≤◌}
+use Prim.Native.Nat.{ℕ, ◌+◌, ◌≤◌}
 use native.Mathlib.Omega.{arith}
-use borrow.Author.Rules.{rules}
-use lib.ListN.{length}
 use Rattle.terms.specs.Form.{Rule, filled, composed}
-use Rattle.terms.specs.FormBytes.{rule_length, rule_byte, slot_of}
+use Rattle.terms.specs.FormBytes.{rule_byte, slot_of}
 use Rattle.terms.specs.Count.{capped}
 use Rattle.counting.specs.Private.Counts.{HasCounts, own_in, before_in, CountedRule}
-use Rattle.forms.proofs.Rules.{rule-whole, is-filled, is-composed, chain-low}
+use Rattle.forms.proofs.Rules.{is-filled, is-composed, chain-low}
 use Rattle.counting.proofs.counts.rule_counts.Goals as goal
 
 -- the counts of B(C) and B(C(y))
@@ -66,4 +64,4 @@ returns c =
     let p = c.requires in
     let kind : 3 ≤ rule_byte c.args.table.now c.args.rule.0 0 = omega (arith, c.if-kind-lt2.false, c.kind_of-kind.ensures, c.if-kind-eq2.false) in
     counted-composed c.args.counts.now _ _ _ _ _ (is-composed _ _ p.0 c.args.rule.0 p.1 kind) own_is
-    (rw (c.Before-of.ensures, c.before_of-2.ensures, c.slot_of-outer.ensures, c.slot_of-inner.ensures) at c.add_capped-before.ensures)
+    (rw (c.before_of.ensures, c.before_of-2.ensures, c.slot_of-outer.ensures, c.slot_of-inner.ensures) at c.add_capped-before.ensures)

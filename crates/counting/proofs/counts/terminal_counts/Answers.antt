@@ -1,17 +1,15 @@
 -- `counting::counts::terminal_counts` meets its contract: the node of the terminal and those of the slots, before the open place and behind it.
 use mathlib.Core.Path.{◌≡◌, refl, sym, ◌∙◌, ap}
 use mathlib.Core.List.{List}
-use Prim.Native.Nat.{ℕ, ◌+◌, ◌*◌, ◌-◌, ◌≤◌}
+use Prim.Native.Nat.{ℕ, ◌+◌, ◌-◌}
 use native.Mathlib.Omega.{arith}
-use borrow.Author.Rules.{rules}
-use lib.ListN.{length}
 use Rattle.terms.specs.Test.{tabulate}
 use Rattle.terms.specs.Form.{Rule, whole, pierced}
-use Rattle.terms.specs.FormBytes.{rule_length, rule_byte, slot_of}
+use Rattle.terms.specs.FormBytes.{rule_byte, slot_of}
 use Rattle.terms.specs.Count.{capped}
 use Rattle.counting.specs.Private.Counts.{total, own_in, slots_from, CountedRule}
 use Rattle.counting.proofs.Slots.{slots-all}
-use Rattle.forms.proofs.Rules.{rule-whole, is_whole, is-pierced, hole-within}
+use Rattle.forms.proofs.Rules.{is_whole, is-pierced, hole-within}
 use Rattle.counting.proofs.Readable.{whole_readable, left_readable, right_readable}
 use Rattle.counting.proofs.counts.terminal_counts.Goals as goal
 
