@@ -1,5 +1,7 @@
 // Runs the rows of calls on standard input, and prints what comes out of each on a line of its own. An empty line and a line that begins with `#` are
 // headings, and are printed as they are. Any other line is a name without a colon, a colon, a space, a call, and the fields of the call.
+#![tactic(auto)]
+
 mod run;
 
 use crate::run::run_row;
@@ -7,6 +9,8 @@ use rows::input::{echo, next_byte};
 use rows::row::read_row;
 use rows::show::put;
 use rows::words::{UNREADABLE, say};
+use std::io;
+use std::io::{Read, Write};
 
 // The most lines that are read.
 const MOST_LINES: usize = 65536;
@@ -15,46 +19,49 @@ const MOST_LINES: usize = 65536;
 const MOST_BYTES: usize = 32768;
 
 // Runs what stands behind the colon.
-fn run_behind() {
+fn run_behind(input: &mut impl Read, output: &mut impl Write) -> io::Result<()> {
     let mut bytes = [0u8; MOST_BYTES];
-    let row = read_row(&mut bytes);
-    put(b':');
-    put(b' ');
-    run_row(row, &bytes);
+    let row = read_row(input, &mut bytes)?;
+    put(output, b':')?;
+    put(output, b' ')?;
+    run_row(output, row, &bytes)
 }
 
 // Runs a line whose first byte was read.
-fn run_line(first: u8) {
+fn run_line(input: &mut impl Read, output: &mut impl Write, first: u8) -> io::Result<()> {
     match first {
-        b'\n' => put(b'\n'),
+        b'\n' => put(output, b'\n'),
         b'#' => {
-            put(b'#');
-            echo(b'\n');
-            put(b'\n');
+            put(output, b'#')?;
+            echo(input, output, b'\n')?;
+            put(output, b'\n')
         }
-        b':' => run_behind(),
+        b':' => run_behind(input, output),
         _ => {
-            put(first);
-            if echo(b':') == b':' {
-                run_behind();
+            put(output, first)?;
+            if echo(input, output, b':')? == b':' {
+                run_behind(input, output)
             } else {
-                put(b':');
-                put(b' ');
-                say(UNREADABLE);
-                put(b'\n');
+                put(output, b':')?;
+                put(output, b' ')?;
+                say(output, UNREADABLE)?;
+                put(output, b'\n')
             }
         }
     }
 }
 
-fn main() {
+fn main(rt: HostRuntime) -> io::Result<()> {
+    let mut input = rt.stdin();
+    let mut output = rt.stdout();
     let mut count = 0;
     while count < MOST_LINES {
-        let first = next_byte();
+        let first = next_byte(&mut input)?;
         if first == 0 {
-            return;
+            return Ok(());
         }
-        run_line(first);
+        run_line(&mut input, &mut output, first)?;
         count += 1;
     }
+    Ok(())
 }

@@ -27,6 +27,8 @@ use rows::show::{put, show_bytes, show_numbers};
 use rows::words;
 use rows::words::{UNREADABLE, say};
 use sizing::size::size;
+use std::io;
+use std::io::Write;
 use tallies::tally::{Step, Tally};
 use unfolding::unfold::unfold;
 use wrapping::wrap::wrap;
@@ -97,6 +99,7 @@ fn first_of(number: usize) -> u32 {
 
 // Makes a call on its fields and what it is lent, and prints its answer.
 fn answer(
+    output: &mut impl Write,
     call: usize,
     a: &[u8],
     b: &[u8],
@@ -105,29 +108,38 @@ fn answer(
     n: [usize; 9],
     bytes: &mut [u8],
     numbers: &mut [u64],
-) {
+) -> io::Result<()> {
     match call {
-        ROOM => say_room(room(a)),
-        BLACKBOARD => say_mask(blackboard(a, bytes)),
-        MAKE => say_length(make_form(a, bytes)),
-        MARK => say_marking(mark(a, bytes, numbers, n[6], tally_of(b))),
-        CERTIFY => certify_into(a, bytes, numbers, n),
-        RULE => say_reading(read(a, b, rule_number(n[4]))),
-        RULES => say_rules(a, b),
-        EVALUATE => say_mask(evaluate(a, b, c, numbers)),
-        ADD => say_mask(add_transition(a, b, c, d, numbers)),
-        SIZE => say_size(size(a, b, numbers)),
-        LABEL => say_label(label(a, b, n[4] as u64, numbers)),
-        UNFOLD => say_length(unfold(a, b, numbers, bytes)),
-        WALK => say_mask(walk(a, b, c, bytes)),
-        WRAP => say_length(wrap(a, b, c, bytes)),
-        PRACTICE => say_length(practice(first_of(n[3]), n[4], a, bytes)),
-        _ => say_step(step(call, tally_of(a), n[3])),
+        ROOM => say_room(output, room(a)),
+        BLACKBOARD => say_mask(output, blackboard(a, bytes)),
+        MAKE => say_length(output, make_form(a, bytes)),
+        MARK => say_marking(output, mark(a, bytes, numbers, n[6], tally_of(b))),
+        CERTIFY => certify_into(output, a, bytes, numbers, n),
+        RULE => say_reading(output, read(a, b, rule_number(n[4]))),
+        RULES => say_rules(output, a, b),
+        EVALUATE => say_mask(output, evaluate(a, b, c, numbers)),
+        ADD => say_mask(output, add_transition(a, b, c, d, numbers)),
+        SIZE => say_size(output, size(a, b, numbers)),
+        LABEL => say_label(output, label(a, b, n[4] as u64, numbers)),
+        UNFOLD => say_length(output, unfold(a, b, numbers, bytes)),
+        WALK => say_mask(output, walk(a, b, c, bytes)),
+        WRAP => say_length(output, wrap(a, b, c, bytes)),
+        PRACTICE => say_length(output, practice(first_of(n[3]), n[4], a, bytes)),
+        _ => say_step(output, step(call, tally_of(a), n[3])),
     }
 }
 
 // Lends what a call asks for, its numbers holding at first those that the row gives.
-fn run_call(call: usize, a: &[u8], b: &[u8], c: &[u8], d: &[u8], held: &[u8], n: [usize; 9]) {
+fn run_call(
+    output: &mut impl Write,
+    call: usize,
+    a: &[u8],
+    b: &[u8],
+    c: &[u8],
+    d: &[u8],
+    held: &[u8],
+    n: [usize; 9],
+) -> io::Result<()> {
     let mut bytes = [BYTE; MOST_BYTES];
     let mut numbers = [NUMBER; MOST_NUMBERS];
     let room = within(room_of(call, n), MOST_BYTES);
@@ -135,37 +147,40 @@ fn run_call(call: usize, a: &[u8], b: &[u8], c: &[u8], d: &[u8], held: &[u8], n:
     let lent_bytes = &mut bytes[0..room];
     let lent_numbers = &mut numbers[0..count];
     hold(held, lent_numbers);
-    answer(call, a, b, c, d, n, lent_bytes, lent_numbers);
-    show_bytes(name_of_bytes(call), lent_bytes);
-    show_numbers(name_of_numbers(call), lent_numbers);
-    put(b'\n');
+    answer(output, call, a, b, c, d, n, lent_bytes, lent_numbers)?;
+    show_bytes(output, name_of_bytes(call), lent_bytes)?;
+    show_numbers(output, name_of_numbers(call), lent_numbers)?;
+    put(output, b'\n')
 }
 
-fn run_fields(call: usize, bytes: &[u8], ends: [usize; 9], n: [usize; 9]) {
+fn run_fields(
+    output: &mut impl Write,
+    call: usize,
+    bytes: &[u8],
+    ends: [usize; 9],
+    n: [usize; 9],
+) -> io::Result<()> {
     let a = part(bytes, ends[1], ends[2]);
     if call == LINE {
-        show_line(line_of(a));
-        return;
+        return show_line(output, line_of(a));
     }
     let b = part(bytes, ends[2], ends[3]);
     let c = part(bytes, ends[3], ends[4]);
     if call == ADD {
         let d = part(bytes, ends[4], ends[5]);
         let held = part(bytes, ends[5], ends[6]);
-        run_call(call, a, b, c, d, held, n);
-        return;
+        return run_call(output, call, a, b, c, d, held, n);
     }
-    run_call(call, a, b, c, &[], &[], n);
+    run_call(output, call, a, b, c, &[], &[], n)
 }
 
 // Runs the call of a row, and ends the line.
-pub fn run_row(row: Row, bytes: &[u8]) {
+pub fn run_row(output: &mut impl Write, row: Row, bytes: &[u8]) -> io::Result<()> {
     if row.fields != fields_of(row.call) || row.end == LOST {
-        say(UNREADABLE);
-        put(b'\n');
-        return;
+        say(output, UNREADABLE)?;
+        return put(output, b'\n');
     }
     let ends = row.ends;
     let numbers = row.numbers;
-    run_fields(row.call, bytes, ends, numbers);
+    run_fields(output, row.call, bytes, ends, numbers)
 }

@@ -1,12 +1,32 @@
 // Marks the sheet on standard input and prints one line: verdict, mask and size, or `refused` and the number.
-use libc::STDIN_FILENO;
+#![tactic(auto)]
+
+ghost use Rattle.std.specs.Io.{ReadsAtMost};
+
 use mark_line::line::line_of;
 use mark_line::show::show_line;
 use sheets::limits::LONGEST_SHEET;
+use std::io;
+use std::io::Read;
 
-fn main() {
+// Reads until the slice is full or the input ends, and answers how many bytes were read.
+fn read_full(input: &mut impl Read, bytes: &mut [u8]) -> io::Result<usize>
+    ensures { ReadsAtMost result bytes.new }
+{
+    let mut length = 0;
+    while length < bytes.len() {
+        let count = input.read(&mut bytes[length..])?;
+        if count == 0 {
+            return Ok(length);
+        }
+        length += count;
+    }
+    Ok(length)
+}
+
+fn main(rt: HostRuntime) -> io::Result<()> {
     // One byte more than the longest sheet: a longer input shows as too long, and no more of it is stored.
-    let mut input = [0u8; LONGEST_SHEET + 1];
-    let length = io::read_full(STDIN_FILENO, &mut input);
-    show_line(line_of(&input[..length]));
+    let mut bytes = [0u8; LONGEST_SHEET + 1];
+    let length = read_full(&mut rt.stdin(), &mut bytes)?;
+    show_line(&mut rt.stdout(), line_of(&bytes[..length]))
 }

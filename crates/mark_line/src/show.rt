@@ -1,32 +1,24 @@
 // Printing a line.
 use crate::line::Line;
-use libc::STDOUT_FILENO;
-
-fn print(text: &[u8]) {
-    io::write_all(STDOUT_FILENO, text);
-}
+use std::io;
+use std::io::Write;
 
 // Mask and size; the largest number of 64 bits represents "over".
-fn show_marked(verdict: &[u8], mask: u8, size: u64) {
-    print(verdict);
-    print(b" ");
-    io::print_decimal(STDOUT_FILENO, mask as u64);
-    print(b" ");
+fn show_marked(output: &mut impl Write, verdict: &[u8], mask: u8, size: u64) -> io::Result<()> {
+    output.write_all(verdict)?;
+    write!(output, " {mask} ")?;
     if size == u64::MAX {
-        print(b"over");
+        output.write_all(b"over")
     } else {
-        io::print_decimal(STDOUT_FILENO, size);
+        write!(output, "{size}")
     }
 }
 
-pub fn show_line(line: Line) {
+pub fn show_line(output: &mut impl Write, line: Line) -> io::Result<()> {
     match line {
-        Line::Refused(n) => {
-            print(b"refused ");
-            io::print_decimal(STDOUT_FILENO, n as u64);
-        }
-        Line::Accepted(mask, size) => show_marked(b"accepted", mask, size),
-        Line::Declined(mask, size) => show_marked(b"declined", mask, size),
+        Line::Refused(n) => write!(output, "refused {n}")?,
+        Line::Accepted(mask, size) => show_marked(output, b"accepted", mask, size)?,
+        Line::Declined(mask, size) => show_marked(output, b"declined", mask, size)?,
     }
-    print(b"\n");
+    output.write_all(b"\n")
 }

@@ -1,2 +1,4 @@
 // Positions of what the rules of a table derive.
+#![tactic(auto)]
+
 pub mod place;

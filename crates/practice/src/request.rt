@@ -1,9 +1,11 @@
 // What is asked for on standard input: the first x and m in decimal, and the bytes of the automaton in hexadecimal, with spaces or line ends between them.
-ghost use Rattle.io.specs.Counts.{IsPrefixLen};
+ghost use Rattle.std.specs.Io.{ReadsAtMost};
 
 use rows::input::{LONGEST, next_byte};
 use rows::lend::within;
 use rows::row::{digit_of, with_digit};
+use std::io;
+use std::io::Read;
 
 // What is answered for no number, and the largest number that is told from others.
 pub const NO_NUMBER: usize = usize::MAX;
@@ -15,39 +17,39 @@ const NO_DIGIT: u8 = b'?';
 
 // The next byte that is no space; a line end counts as a space. 0 represents the end of the input, and a byte 0 ends it too. Where too many spaces stand there,
 // the answer is no digit.
-fn next_sign() -> u8 {
+fn next_sign(input: &mut impl Read) -> io::Result<u8> {
     let mut count = 0;
     while count < LONGEST {
-        let byte = next_byte();
+        let byte = next_byte(input)?;
         if byte == 0 {
-            return byte;
+            return Ok(byte);
         }
         if byte > b' ' {
-            return byte;
+            return Ok(byte);
         }
         count += 1;
     }
-    NO_DIGIT
+    Ok(NO_DIGIT)
 }
 
 // A decimal number and the space behind it, LARGEST where it is larger; NO_NUMBER where something else stands there.
-pub fn read_number() -> usize {
+pub fn read_number(input: &mut impl Read) -> io::Result<usize> {
     let mut number = 0;
-    let mut byte = next_sign();
+    let mut byte = next_sign(input)?;
     let mut count = 0;
     while count < LONGEST {
         let digit = digit_of(byte);
         if digit > 9 {
             if byte > b' ' || count == 0 {
-                return NO_NUMBER;
+                return Ok(NO_NUMBER);
             }
-            return number;
+            return Ok(number);
         }
         number = within(with_digit(number, digit), LARGEST);
-        byte = next_byte();
+        byte = next_byte(input)?;
         count += 1;
     }
-    NO_NUMBER
+    Ok(NO_NUMBER)
 }
 
 // A capital letter for a small one.
@@ -63,25 +65,25 @@ fn capital(byte: u8) -> u8 {
 
 // The bytes up to the end of the input, and how many they are. They cannot be read where that is the length of the slice: a digit is missing or is none, or no
 // room is left.
-pub fn read_bytes(bytes: &mut [u8]) -> usize
-    ensures { IsPrefixLen result bytes.new }
+pub fn read_bytes(input: &mut impl Read, bytes: &mut [u8]) -> io::Result<usize>
+    ensures { ReadsAtMost result bytes.new }
 {
     let mut i = 0;
     while i < bytes.len() {
-        let high = next_sign();
+        let high = next_sign(input)?;
         if high == 0 {
-            return i;
+            return Ok(i);
         }
         let high = digit_of(capital(high));
-        let low = digit_of(capital(next_byte()));
+        let low = digit_of(capital(next_byte(input)?));
         if high > 15 {
-            return bytes.len();
+            return Ok(bytes.len());
         }
         if low > 15 {
-            return bytes.len();
+            return Ok(bytes.len());
         }
         bytes[i] = high * 16 + low;
         i += 1;
     }
-    i
+    Ok(i)
 }

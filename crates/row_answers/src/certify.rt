@@ -4,40 +4,49 @@ use certificate::certify::{Answers, certify};
 use rows::lend::{BYTE, MOST_BYTES, MOST_NUMBERS, NUMBER, within};
 use rows::show::{next_answer, show_bytes, show_numbers};
 use rows::words::{COUNTS, MASKS, TREE};
+use std::io;
+use std::io::Write;
 
-fn say_answers(answers: Answers) {
+fn say_answers(output: &mut impl Write, answers: Answers) -> io::Result<()> {
     let made = answers.made;
     let evaluated = answers.evaluated;
     let unfolded = answers.unfolded;
     let walked = answers.walked;
-    say_length(made);
-    next_answer();
-    say_mask(evaluated);
-    next_answer();
-    say_length(unfolded);
-    next_answer();
-    say_mask(walked);
+    say_length(output, made)?;
+    next_answer(output)?;
+    say_mask(output, evaluated)?;
+    next_answer(output)?;
+    say_length(output, unfolded)?;
+    next_answer(output)?;
+    say_mask(output, walked)
 }
 
-fn show_rest(counts: &[u64], tree: &[u8], masks: &[u8]) {
-    show_numbers(COUNTS, counts);
-    show_bytes(TREE, tree);
-    show_bytes(MASKS, masks);
+fn show_rest(output: &mut impl Write, counts: &[u64], tree: &[u8], masks: &[u8]) -> io::Result<()> {
+    show_numbers(output, COUNTS, counts)?;
+    show_bytes(output, TREE, tree)?;
+    show_bytes(output, MASKS, masks)
 }
 
 fn certify_with(
+    output: &mut impl Write,
     sheet: &[u8],
     form: &mut [u8],
     relations: &mut [u64],
     counts: &mut [u64],
     tree: &mut [u8],
     masks: &mut [u8],
-) {
-    say_answers(certify(sheet, form, relations, counts, tree, masks));
-    show_rest(counts, tree, masks);
+) -> io::Result<()> {
+    say_answers(output, certify(sheet, form, relations, counts, tree, masks))?;
+    show_rest(output, counts, tree, masks)
 }
 
-pub fn certify_into(sheet: &[u8], form: &mut [u8], relations: &mut [u64], n: [usize; 9]) {
+pub fn certify_into(
+    output: &mut impl Write,
+    sheet: &[u8],
+    form: &mut [u8],
+    relations: &mut [u64],
+    n: [usize; 9],
+) -> io::Result<()> {
     let mut counts = [NUMBER; MOST_NUMBERS];
     let mut tree = [BYTE; MOST_BYTES];
     let mut masks = [BYTE; MOST_BYTES];
@@ -45,11 +54,12 @@ pub fn certify_into(sheet: &[u8], form: &mut [u8], relations: &mut [u64], n: [us
     let nodes = within(n[6], MOST_BYTES);
     let room = within(n[7], MOST_BYTES);
     certify_with(
+        output,
         sheet,
         form,
         relations,
         &mut counts[0..count],
         &mut tree[0..nodes],
         &mut masks[0..room],
-    );
+    )
 }

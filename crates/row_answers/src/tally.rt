@@ -3,6 +3,8 @@ ghost use Rattle.std.specs.Prelude.{◌<◌};
 
 use rows::show::{print_behind, print_number, put};
 use rows::words::{TALLY, say};
+use std::io;
+use std::io::Write;
 use tallies::tally::{ACCEPTED, CANDIDATES, COUNTS, DECLINED, TURNED_AWAY, Tally, WAYS};
 
 // The byte at a place, 0 where there is none.
@@ -31,17 +33,23 @@ pub fn tally_of(bytes: &[u8]) -> Tally {
     Tally { counts }
 }
 
-fn print_line(candidate: usize, accepted: u32, declined: u32, turned_away: u32) {
-    print_number(candidate as u64);
-    put(b' ');
-    print_behind(b'(', accepted as u64);
-    print_number(declined as u64);
-    print_number(turned_away as u64);
-    put(b')');
+fn print_line(
+    output: &mut impl Write,
+    candidate: usize,
+    accepted: u32,
+    declined: u32,
+    turned_away: u32,
+) -> io::Result<()> {
+    print_number(output, candidate as u64)?;
+    put(output, b' ')?;
+    print_behind(output, b'(', accepted as u64)?;
+    print_number(output, declined as u64)?;
+    print_number(output, turned_away as u64)?;
+    put(output, b')')
 }
 
 // The line of a candidate, where some count of it is not 0.
-fn say_line(counts: &[u32; COUNTS], candidate: usize)
+fn say_line(output: &mut impl Write, counts: &[u32; COUNTS], candidate: usize) -> io::Result<()>
     requires { candidate < 16 }
 {
     let line = WAYS * candidate;
@@ -49,16 +57,18 @@ fn say_line(counts: &[u32; COUNTS], candidate: usize)
     let declined = counts[line + DECLINED];
     let turned_away = counts[line + TURNED_AWAY];
     if accepted | declined | turned_away != 0 {
-        print_line(candidate, accepted, declined, turned_away);
+        print_line(output, candidate, accepted, declined, turned_away)?;
     }
+    Ok(())
 }
 
 // The lines of those candidates that have one, by their numbers.
-pub fn say_tally(tally: Tally) {
-    say(TALLY);
+pub fn say_tally(output: &mut impl Write, tally: Tally) -> io::Result<()> {
+    say(output, TALLY)?;
     let mut candidate = 0;
     while candidate < CANDIDATES {
-        say_line(&tally.counts, candidate);
+        say_line(output, &tally.counts, candidate)?;
         candidate += 1;
     }
+    Ok(())
 }

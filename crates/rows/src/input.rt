@@ -1,30 +1,29 @@
 // Standard input.
 use crate::show::put;
-use libc::STDIN_FILENO;
+use std::io;
+use std::io::{Read, Write};
 
 // The longest part of a line that is read in one go.
 pub const LONGEST: usize = 65536;
 
 // The next byte, 0 where the input has ended.
-pub fn next_byte() -> u8 {
-    let mut byte = [0u8; 1];
-    io::read_full(STDIN_FILENO, &mut byte);
-    byte[0]
+pub fn next_byte(input: &mut impl Read) -> io::Result<u8> {
+    input.bytes().next().unwrap_or(Ok(0))
 }
 
 // Prints what is left of a line up to a byte, and answers the byte that ends it.
-pub fn echo(stop: u8) -> u8 {
+pub fn echo(input: &mut impl Read, output: &mut impl Write, stop: u8) -> io::Result<u8> {
     let mut count = 0;
     while count < LONGEST {
-        let byte = next_byte();
+        let byte = next_byte(input)?;
         if byte == stop {
-            return byte;
+            return Ok(byte);
         }
         if byte < b' ' {
-            return byte;
+            return Ok(byte);
         }
-        put(byte);
+        put(output, byte)?;
         count += 1;
     }
-    0
+    Ok(0)
 }

@@ -1,4 +1,6 @@
 // Rows of calls on standard input, and the printing of what comes out of a call.
+#![tactic(auto)]
+
 pub mod input;
 pub mod lend;
 pub mod names;

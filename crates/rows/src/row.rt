@@ -1,12 +1,14 @@
 // A row as it is read behind the colon: a space, a call, and the fields of the call behind a space each.
 use crate::input::{LONGEST, next_byte};
 use crate::names::{NONE, first_number};
+use std::io;
+use std::io::Read;
 
 // The place behind what does not fit.
 pub const LOST: usize = usize::MAX;
 
 // What was read of a row.
-#[derive(Drop)]
+#[derive(Clone, Copy)]
 pub struct Row {
     // The call, by its name. Whatever is no digit is taken for a letter of it, so that a wrong sign makes it no call.
     pub call: usize,
@@ -165,19 +167,19 @@ fn write(bytes: &mut [u8], row: Row, digit: u8) -> usize {
 }
 
 // Reads a row up to the end of its line. Its byte strings go to the slice.
-pub fn read_row(bytes: &mut [u8]) -> Row {
+pub fn read_row(input: &mut impl Read, bytes: &mut [u8]) -> io::Result<Row> {
     let mut row = new_row();
     let mut count = 0;
     while count < LONGEST {
-        let byte = next_byte();
+        let byte = next_byte(input)?;
         let digit = digit_of(byte);
         let end = write(bytes, row, digit);
         row.end = end;
         row = add_byte(row, byte, digit);
         if byte < b' ' {
-            return row;
+            return Ok(row);
         }
         count += 1;
     }
-    new_row()
+    Ok(new_row())
 }

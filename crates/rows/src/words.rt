@@ -1,5 +1,7 @@
 // The words that are printed.
 use crate::show::print;
+use std::io;
+use std::io::Write;
 
 pub const UNREADABLE: usize = 0;
 
@@ -76,11 +78,11 @@ fn words() -> [u8; WIDTH * COUNT] {
 }
 
 // Prints a word.
-pub fn say(word: usize) {
+pub fn say(output: &mut impl Write, word: usize) -> io::Result<()> {
     let words = words();
     let start = WIDTH * (word % COUNT);
     let length = (words[start] % 16) as usize;
     let first = start + 1;
     let end = first + length % WIDTH;
-    print(&words[first..end]);
+    print(output, &words[first..end])
 }

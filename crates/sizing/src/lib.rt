@@ -1,3 +1,5 @@
 // The size of the tree that a form derives.
+#![tactic(auto)]
+
 pub mod answer;
 pub mod size;

@@ -1,2 +1,4 @@
 // The symbols of the rules of a table, written out.
+#![tactic(auto)]
+
 pub mod write;

@@ -64,6 +64,7 @@ pub returns : goal.returns
 returns c =
     let known : Sifting c.requires c.loop-at.at c.loop-at.low c.loop-at.count c.loop-at.flags c.loop-at.auto = c.loop-at.invariant c.requires in
     record {
-  long = known.long;
-  kept = λ g. all_sifted g (c.loop-at.invariant g) c.loop-at-test.false;
-  counted = omega (arith, known.few, known.within);
+      long = known.long;
+      kept = λ g. all_sifted g (c.loop-at.invariant g) c.loop-at-test.false;
+      counted = omega (arith, known.few, known.within);
+    }

@@ -1,19 +1,17 @@
 use mathlib.Core.Path.{◌≡◌, refl, ap, sym, ◌∙◌}
 use mathlib.Core.Bool.{Bool, ◌&&◌, and_assoc, and_comm}
 use mathlib.Core.List.{List, [], ◌∷◌}
-use Prim.Native.Nat.{ℕ, zero, suc, ◌-◌, ◌/◌, ◌^◌, ◌≤◌, ◌<◌}
+use Prim.Native.Nat.{ℕ, zero, suc, ◌/◌, ◌^◌, ◌<◌}
 use native.Mathlib.Numerals.{add-one}
 use native.Mathlib.Omega.{arith}
 use lib.ListN.{length, get_or, take}
-use lib.Seq.{take_all}
 use lib.Bits.{bit_and}
 use lib.Dec.{eqb}
-use borrow.Author.Rules.{rules}
 use Rattle.terms.specs.Automaton.{has, set_of, all_in}
 use Rattle.terms.specs.Relation.{matrix}
 use Rattle.terms.proofs.Automaton.Relation.{matrix_cong}
 use Rattle.blackboard_terms.specs.Step.{lane, lanes_at}
-use Rattle.lane_steps.proofs.Lanes.{ones, ones_and}
+use Rattle.lane_steps.proofs.Lanes.{ones_and}
 use Rattle.lane_steps.proofs.step.lanes_with.Goals as goal
 
 -- that the first j states are in their sets, and the state at j in its own

@@ -5,7 +5,6 @@ use Prim.Native.Nat.{ℕ, ◌%◌, ◌≤◌}
 use native.Mathlib.Omega.{arith}
 use lib.ListN.{length, take, replicate, length-map}
 use lib.Seq.{length-take-le}
-use borrow.Author.Rules.{rules}
 use Rattle.terms.specs.Grammar.{terminal_rank}
 use Rattle.terms.specs.Automaton.{step}
 use Rattle.terms.specs.Sheet.{transitions_of}
@@ -43,6 +42,6 @@ walk-requires c =
     asked c.args.alphabet.now c.args.automaton.now c.args.links.now c.args.children.now c.args.terminal.0 c.requires.0 c.requires.1
 
 pub returns : goal.returns
-returns c =
+returns c p hp =
     stepped c.args.alphabet.now c.args.automaton.now c.args.links.now c.args.children.now c.args.terminal.0 c.requires.0 c.requires.1
     c.walk.result p (c.walk.ensures p hp)

@@ -6,7 +6,6 @@ use Prim.Native.Nat.{ℕ, ◌+◌, ◌*◌, ◌%◌, ◌^◌}
 use native.Mathlib.Nat.{add-sub_cancel_left}
 use native.Mathlib.Omega.{arith}
 use lib.ListN.{length, get_or, get_or-eq_default, length-map}
-use borrow.Author.Rules.{rules}
 use Rattle.terms.specs.Automaton.{all_in}
 use Rattle.terms.specs.Relation.{matrix}
 use Rattle.terms.specs.Sheet.{transition_byte}
@@ -32,7 +31,7 @@ lanes_with-requires c =
     rw (add-sub_cancel_left (2 + 6 * c.args.i + 2) n) (sym (states_length a n c.args.i c.requires), states_small a n c.args.i c.requires)
 
 pub returns : goal.returns
-returns c =
+returns c p hp =
     let a = c.args.automaton.now in
     let ms = lanes_at p c.args.children.now in
     let n = length c.args.children.now in

@@ -1,14 +1,11 @@
-use mathlib.Core.Path.{◌≡◌, refl, ap₂, ◌∙◌}
-use Prim.Native.Nat.{ℕ, ◌+◌, ◌-◌, ◌<◌}
+use mathlib.Core.Path.{refl, ◌∙◌}
+use Prim.Native.Nat.{◌+◌, ◌-◌, ◌<◌}
 use native.Mathlib.Nat.{add-sub_cancel_left}
 use native.Mathlib.Omega.{arith}
 use lib.ListN.{length, get_or}
-use Rattle.terms.specs.Test.{some}
-use Rattle.terms.specs.Relation.{matrix}
 use Rattle.terms.specs.Sheet.{transition_count}
 use Rattle.transition_links.specs.Links.{heads}
-use Rattle.transitions.specs.Step.{transition_with, leads}
-use Rattle.transitions.proofs.Walking.{Walked, starts, goes_on, link_small, head_small}
+use Rattle.transitions.proofs.Walking.{starts, goes_on}
 use Rattle.blackboard_terms.specs.Step.{lane, lanes_at}
 use Rattle.lane_steps.proofs.Lanes.{lane-none, lane_or}
 use Rattle.lane_steps.proofs.step.walk.Goals as goal
@@ -37,11 +34,11 @@ loop-i-preserved c =
     let f = heads + c.args.terminal.0 - heads in
     let n = length c.args.children.now in
     let l = c.loop-i in
-    let targets = c.Targets-of.result in
+    let targets = c.targets_of-targets.result in
     let h : l.i < transition_count a = omega arith in (
       l.invariant.0,
       λ p hp.
           rw (lane_or targets l.targets p)
           (goes_on a (lanes_at p c.args.children.now) f n (lane l.targets p) (lane targets p) l.i (get_or c.args.links.now l.i 0)
-          (l.invariant.1 p hp) ((l.invariant.1 p hp).here h) (c.Targets-of.ensures p hp) (c.requires.linked.next l.i h)),
+          (l.invariant.1 p hp) ((l.invariant.1 p hp).here h) (c.targets_of-targets.ensures p hp) (c.requires.linked.next l.i h)),
     )
