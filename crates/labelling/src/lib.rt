@@ -1,3 +1,5 @@
 // The terminal at a position of a form's tree.
+#![tactic(auto)]
+
 pub mod answer;
 pub mod label;

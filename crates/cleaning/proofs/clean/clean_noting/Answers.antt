@@ -1,12 +1,10 @@
 use mathlib.Core.Path.{refl}
 use Prim.Native.Nat.{◌-◌, ◌≤◌}
 use native.Mathlib.Omega.{arith}
-use borrow.Author.Rules.{rules}
 use lib.ListN.{length, take, drop}
 use Rattle.grammars.proofs.Body.{Standing}
-use Rattle.cleaning.specs.Clean.{longest_body, GrammarBody}
 use Rattle.cleaning.proofs.Parts.{part_long}
-use Rattle.cleaning.proofs.Cleaning.{Cleaning, none-cleaned, in_body, in_span, number-few, room-there, part_ready, rule-cleaned, short-body, all-cleaned}
+use Rattle.cleaning.proofs.Cleaning.{Cleaning, none-cleaned, in_body, in_span, room-there, part_ready, rule-cleaned, short-body, all-cleaned}
 use Rattle.cleaning.proofs.clean.clean_noting.Goals as goal
 
 pub loop-rule-init : goal.loop-rule-init
@@ -29,9 +27,11 @@ slice_bounds-clean_rule-count-in-loop-rule c =
     let within : c.loop-rule.to ≤ length c.loop-rule.cleaned = room-there c.requires.0 c.requires.1 known c.loop-rule-test.true c.span_at-span.ensures in
     omega (arith, within)
 
--- UNMATCHED
 pub slice_bounds-clean_rule-start-in-loop-rule : goal.slice_bounds-clean_rule-start-in-loop-rule
-slice_bounds-clean_rule-start-in-loop-rule c = ?
+slice_bounds-clean_rule-start-in-loop-rule c =
+    let known : Cleaning c.requires.0 c.requires.1 c.loop-rule.at c.loop-rule.to c.loop-rule.rule.0 c.loop-rule.ranks c.loop-rule.present c.loop-rule.alone c.loop-rule.cleaned = c.loop-rule.invariant c.requires.0 c.requires.1 in
+    let within : c.loop-rule.to ≤ length c.loop-rule.cleaned = room-there c.requires.0 c.requires.1 known c.loop-rule-test.true c.span_at-span.ensures in
+    omega (arith, within)
 
 pub clean_rule-to-requires : goal.clean_rule-to-requires
 clean_rule-to-requires c =

@@ -1,14 +1,9 @@
 -- `cleaning::clean::clean_noting` meets its contract. The invariant: what is written is the body of the rules before the present one, cleaned, and they are noted. The
 -- measure is the number of rules left.
-use mathlib.Core.Path.{refl}
 use Prim.Native.Nat.{◌-◌, ◌≤◌}
-use native.Mathlib.Omega.{arith}
-use borrow.Author.Rules.{rules}
-use lib.ListN.{length, take, drop}
-use Rattle.grammars.proofs.Body.{Standing}
+use lib.ListN.{length}
 use Rattle.cleaning.specs.Clean.{longest_body, GrammarBody}
-use Rattle.cleaning.proofs.Parts.{part_long}
-use Rattle.cleaning.proofs.Cleaning.{Cleaning, none-cleaned, in_body, in_span, number-few, room-there, part_ready, rule-cleaned, short-body, all-cleaned}
+use Rattle.cleaning.proofs.Cleaning.{Cleaning}
 use Rattle.cleaning.proofs.clean.clean_noting.Given as goal
 
 abbrev pub invariant-loop-rule : goal.invariant-loop-rule

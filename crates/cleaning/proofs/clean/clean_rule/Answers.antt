@@ -1,11 +1,7 @@
 -- `cleaning::clean::clean_rule` meets its contract: rank and count are put before the nodes, which are cleaned behind their places.
 use mathlib.Core.Path.{refl}
-use Prim.Native.Nat.{◌<◌}
 use native.Mathlib.Omega.{arith}
-use borrow.Author.Rules.{rules}
-use lib.ListN.{length-set}
-use Rattle.terms.specs.Check.{most_rules}
-use Rattle.cleaning.proofs.OneRule.{number-few, rank-few, still_long, rule-cleaned}
+use Rattle.cleaning.proofs.OneRule.{rule-cleaned}
 use Rattle.cleaning.proofs.Parts.{part_long}
 use Rattle.cleaning.proofs.clean.clean_rule.Goals as goal
 

@@ -1,12 +1,8 @@
 -- `cleaning::sift::flag_children` meets its contract. The invariant: the children before the present one have their flags, and later flags are as they were.
 -- The measure is the number of children left.
-use mathlib.Core.Path.{◌≡◌}
-use Prim.Native.Nat.{◌+◌, ◌-◌, ◌≤◌, ◌<◌}
-use native.Mathlib.Omega.{arith}
-use Rattle.terms.specs.Check.{most_nodes}
+use Prim.Native.Nat.{◌-◌, ◌≤◌}
 use Rattle.nodes.specs.Nodes.{naming}
 use Rattle.cleaning.specs.Sifting.{ChildrenFlagged}
-use Rattle.cleaning.proofs.Flagging.{none-flagged, child_flagged}
 use Rattle.cleaning.proofs.sift.flag_children.Given as goal
 
 abbrev pub invariant-loop-child : goal.invariant-loop-child

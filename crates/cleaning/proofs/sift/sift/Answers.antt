@@ -1,25 +1,21 @@
 use mathlib.Core.Path.{◌≡◌, refl, sym, ◌∙◌}
-use mathlib.Core.Logic.{⊎_elim}
-use Prim.Native.Nat.{◌-◌, ◌≤◌, ◌<◌}
+use Prim.Native.Nat.{◌≤◌, ◌<◌}
 use native.Mathlib.Omega.{arith}
-use borrow.Author.Rules.{rules}
-use lib.ListN.{length, get_or}
-use Rattle.terms.specs.Grammar.{name, rank_in}
+use lib.ListN.{get_or}
+use Rattle.terms.specs.Grammar.{rank_in}
 use Rattle.terms.specs.Check.{most_nodes}
-use Rattle.nodes.specs.Nodes.{naming}
-use Rattle.cleaning.specs.Sifting.{Side}
-use Rattle.cleaning.proofs.Sifting.{Sifting, none_sifted, rank-read, node-ranked, can_keep, can_stay, some_flag, rank-fits, kept_as, dropped_as, all_sifted}
+use Rattle.cleaning.proofs.Sifting.{Sifting, rank-read, node-ranked, can_keep, can_stay, some_flag, rank-fits, kept_as, dropped_as, all_sifted}
 use Rattle.cleaning.proofs.sift.sift.Goals as goal
 use Rattle.cleaning.proofs.sift.sift.Goals.{else-stays, then-stays}
 
 pub name_rank-rank-requires : goal.name_rank-rank-requires
 name_rank-rank-requires c =
-    let known : Sifting c.requires c.loop-at.at c.loop-at.low c.loop-at.count c.loop-at.flags c.loop-at.auto = c.loop-at.invariant c.requires in
+    let known : Sifting c.requires c.loop-at.at c.loop-at.low c.loop-at.count c.loop-at.flags c.loop-at.kept = c.loop-at.invariant c.requires in
     rw (c.name_of-name.ensures) (node-ranked c.requires known c.loop-at-test.true)
 
 pub bounds-flags-low : goal.bounds-flags-low
 bounds-flags-low c =
-    let known : Sifting c.requires c.loop-at.at c.loop-at.low c.loop-at.count c.loop-at.flags c.loop-at.auto = c.loop-at.invariant c.requires in
+    let known : Sifting c.requires c.loop-at.at c.loop-at.low c.loop-at.count c.loop-at.flags c.loop-at.kept = c.loop-at.invariant c.requires in
     let ranked : c.name_rank-rank.result ≡ rank_in c.args.alphabet.now c.requires.rules (get_or c.args.nodes.now c.loop-at.at 0) = rank-read c.requires known c.loop-at-test.true (c.name_of-name.ensures) c.name_rank-rank.ensures in
     let fits : (c.loop-at.low < most_nodes) × (c.name_rank-rank.result ≤ c.loop-at.low) = (let g = c.requires in
     (some_flag g known c.loop-at-test.true, rw ranked (rank-fits g known c.loop-at-test.true))) in
@@ -27,7 +23,7 @@ bounds-flags-low c =
 
 pub overflow_sub-low-in-loop-at : goal.overflow_sub-low-in-loop-at
 overflow_sub-low-in-loop-at c =
-    let known : Sifting c.requires c.loop-at.at c.loop-at.low c.loop-at.count c.loop-at.flags c.loop-at.auto = c.loop-at.invariant c.requires in
+    let known : Sifting c.requires c.loop-at.at c.loop-at.low c.loop-at.count c.loop-at.flags c.loop-at.kept = c.loop-at.invariant c.requires in
     let ranked : c.name_rank-rank.result ≡ rank_in c.args.alphabet.now c.requires.rules (get_or c.args.nodes.now c.loop-at.at 0) = rank-read c.requires known c.loop-at-test.true (c.name_of-name.ensures) c.name_rank-rank.ensures in
     let fits : (c.loop-at.low < most_nodes) × (c.name_rank-rank.result ≤ c.loop-at.low) = (let g = c.requires in
     (some_flag g known c.loop-at-test.true, rw ranked (rank-fits g known c.loop-at-test.true))) in
@@ -35,7 +31,7 @@ overflow_sub-low-in-loop-at c =
 
 pub flag_children-requires : goal.flag_children-requires
 flag_children-requires c =
-    let known : Sifting c.requires c.loop-at.at c.loop-at.low c.loop-at.count c.loop-at.flags c.loop-at.auto = c.loop-at.invariant c.requires in
+    let known : Sifting c.requires c.loop-at.at c.loop-at.low c.loop-at.count c.loop-at.flags c.loop-at.kept = c.loop-at.invariant c.requires in
     let ranked : c.name_rank-rank.result ≡ rank_in c.args.alphabet.now c.requires.rules (get_or c.args.nodes.now c.loop-at.at 0) = rank-read c.requires known c.loop-at-test.true (c.name_of-name.ensures) c.name_rank-rank.ensures in
     let fits : (c.loop-at.low < most_nodes) × (c.name_rank-rank.result ≤ c.loop-at.low) = (let g = c.requires in
     (some_flag g known c.loop-at-test.true, rw ranked (rank-fits g known c.loop-at-test.true))) in
@@ -48,7 +44,7 @@ flag_children-requires c =
 
 pub stays-requires : goal.stays-requires
 stays-requires c =
-    let known : Sifting c.requires c.loop-at.at c.loop-at.low c.loop-at.count c.loop-at.flags c.loop-at.auto = c.loop-at.invariant c.requires in
+    let known : Sifting c.requires c.loop-at.at c.loop-at.low c.loop-at.count c.loop-at.flags c.loop-at.kept = c.loop-at.invariant c.requires in
     let g = c.requires in
     (g.noted.told, rw (c.name_of-name.ensures) (can_stay g known c.loop-at-test.true))
 
@@ -58,11 +54,11 @@ loop-at-preserved c =
     let s = c.loop-at.invariant g in
     let flagged = c.flag_children.ensures in
     let call = c.name_of-name.ensures in
-    elim c.if-stays.branch [ then-stays w ↦ rw (w.2, w.3) (kept_as g s c.loop-at-test.true call c.name_rank-rank.ensures refl flagged (sym c.stays.ensures ∙ w.if-stays.true)) | else-stays w ↦ rw (w.1, w.2) (dropped_as g s c.loop-at-test.true call c.name_rank-rank.ensures refl flagged (sym c.stays.ensures ∙ w.if-stays.false)) ]
+    elim c.if-stays.branch [ then-stays w ↦ rw (w.kept-is, w.count-is) (kept_as g s c.loop-at-test.true call c.name_rank-rank.ensures refl flagged (sym c.stays.ensures ∙ w.if-stays.true)) | else-stays w ↦ rw (w.kept-is, w.count-is) (dropped_as g s c.loop-at-test.true call c.name_rank-rank.ensures refl flagged (sym c.stays.ensures ∙ w.if-stays.false)) ]
 
 pub returns : goal.returns
 returns c =
-    let known : Sifting c.requires c.loop-at.at c.loop-at.low c.loop-at.count c.loop-at.flags c.loop-at.auto = c.loop-at.invariant c.requires in
+    let known : Sifting c.requires c.loop-at.at c.loop-at.low c.loop-at.count c.loop-at.flags c.loop-at.kept = c.loop-at.invariant c.requires in
     record {
       long = known.long;
       kept = λ g. all_sifted g (c.loop-at.invariant g) c.loop-at-test.false;

@@ -1,11 +1,9 @@
 -- `contraction::contract_terminal::contract_terminal` meets its contract: which children are open decides, as in the model.
 use native.Mathlib.Omega.{arith}
-use Rattle.cells.specs.Cells.{most_cells}
-use Rattle.contraction.specs.declared.contract_terminal.Open.TheVariants.{Nowhere, At, Several}
-use Rattle.contraction.proofs.Terminals.{branches, grows, children-below}
-use borrow.Author.Rules.{rules}
+use Rattle.contraction.specs.declared.contract_terminal.Open.TheVariants.{Several}
+use Rattle.contraction.proofs.Terminals.{branches, grows}
 use Rattle.contraction.proofs.contract_terminal.contract_terminal.Goals as goal
 
 pub returns-in-Several : goal.returns-in-Several
 returns-in-Several c =
-    grows _ _ _ Several c.in-Several.is c.open_among.ensures (branches _ _ _ (omega (arith, c.well-formed)) c.requires.1.few c.add_terminal.ensures)
+    grows _ _ _ Several c.in-Several.is c.open_among.ensures (branches _ _ _ (omega arith) c.requires.1.few c.add_terminal.ensures)

@@ -1,6 +1,6 @@
-use Prim.Native.Nat.{◌-◌, ◌≤◌}
+use Prim.Native.Nat.{◌-◌}
 use native.Mathlib.Omega.{arith}
-use Rattle.contraction.proofs.OpenChildren.{SortedFrom, sorted_none, sorted-turn, sorted_all}
+use Rattle.contraction.proofs.OpenChildren.{sorted_none, sorted-turn}
 use Rattle.contraction.proofs.contract_terminal.open_among.Goals as goal
 
 pub loop-j-init : goal.loop-j-init

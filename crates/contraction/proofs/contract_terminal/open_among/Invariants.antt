@@ -1,7 +1,6 @@
 -- `contraction::contract_terminal::open_among` meets its contract: the invariant says which of the children passed, the last ones, are open.
-use Prim.Native.Nat.{◌-◌, ◌≤◌}
-use native.Mathlib.Omega.{arith}
-use Rattle.contraction.proofs.OpenChildren.{SortedFrom, sorted_none, sorted-turn, sorted_all}
+use Prim.Native.Nat.{◌≤◌}
+use Rattle.contraction.proofs.OpenChildren.{SortedFrom}
 use Rattle.contraction.proofs.contract_terminal.open_among.Given as goal
 
 abbrev pub invariant-loop-j : goal.invariant-loop-j

@@ -1,8 +1,5 @@
 -- `contraction::contract_terminal::pierce` meets its contract: the rule is the model's, and it is put over the open child.
-use native.Mathlib.Omega.{arith}
-use Rattle.cells.specs.Cells.{most_cells}
-use Rattle.contraction.proofs.Terminals.{pierces, children-below}
-use borrow.Author.Rules.{rules}
+use Rattle.contraction.proofs.Terminals.{pierces}
 use Rattle.contraction.proofs.contract_terminal.pierce.Goals as goal
 
 pub returns : goal.returns

@@ -3,7 +3,6 @@ use mathlib.Core.Path.{◌≡◌, ap, ◌∙◌}
 use mathlib.Core.List.{List}
 use Prim.Native.Nat.{ℕ}
 use lib.ListN.{length}
-use borrow.Author.Rules.{rules}
 use Rattle.terms.specs.FormBytes.{table_count}
 use Rattle.terms.specs.Calls.{lent_after}
 use Rattle.forms.specs.Private.Table.{ValidTable}

@@ -1,5 +1,4 @@
 -- `redoing::dependence::depends` meets its contract: each test comes where those before it failed.
-use borrow.Author.Rules.{rules}
 use Rattle.terms.specs.Test.{any}
 use Rattle.relations.proofs.Laws.{or_false}
 use Rattle.redoing.proofs.dependence.depends.Goals as goal

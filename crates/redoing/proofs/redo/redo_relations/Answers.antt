@@ -1,8 +1,6 @@
-use Prim.Native.Nat.{◌-◌, ◌≤◌}
 use native.Mathlib.Omega.{arith}
-use borrow.Author.Rules.{rules}
 use Rattle.terms.proofs.Sheet.Automaton.{automaton_passed}
-use Rattle.redoing.proofs.Passing.{Passing, none_done, next-done, all_done}
+use Rattle.redoing.proofs.Passing.{none_done, next-done}
 use Rattle.redoing.proofs.redo.redo_relations.Goals as goal
 
 pub link_transitions-links-requires : goal.link_transitions-links-requires

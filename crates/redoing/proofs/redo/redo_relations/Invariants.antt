@@ -1,9 +1,6 @@
 -- `redoing::redo::redo_relations` meets its contract. The invariant: the rules below the present one are done.
 use Prim.Native.Nat.{◌-◌, ◌≤◌}
-use native.Mathlib.Omega.{arith}
-use borrow.Author.Rules.{rules}
-use Rattle.terms.proofs.Sheet.Automaton.{automaton_passed}
-use Rattle.redoing.proofs.Passing.{Passing, none_done, next-done, all_done}
+use Rattle.redoing.proofs.Passing.{Passing}
 use Rattle.redoing.proofs.redo.redo_relations.Given as goal
 
 abbrev pub invariant-loop-number : goal.invariant-loop-number

@@ -1,12 +1,7 @@
 -- `redoing::redo::redo_rule` meets its contract: the flag and the entry of a rule are written exactly where the rule depends on the terminal.
 use mathlib.Core.Path.{◌≡◌, refl, ap, ◌∙◌}
 use native.Mathlib.Omega.{arith}
-use borrow.Author.Rules.{rules}
-use borrow.Author.Tests.{not-true, not-false}
-use Prim.Native.Nat.{◌+◌, ◌<◌}
-use lib.ListN.{length}
-use Rattle.terms.specs.FormBytes.{most_form_rules}
-use Rattle.forms.proofs.Rules.{rule-whole}
+use Prim.Native.Nat.{◌+◌}
 use Rattle.form_bytes.specs.declared.rule.FormRule.{FormRule}
 use Rattle.form_bytes.specs.Fields.{fields_at}
 use Rattle.entries.proofs.Entries.{one_written, none_left}
@@ -21,4 +16,4 @@ returns c =
     let i = a.number.0 in
     let one = one_written a.alphabet.now a.automaton.now a.table.now i (i + 1) a.relations.now (omega arith) _ refl in
     let none = none_left a.alphabet.now a.automaton.now a.table.now (i + 1) (i + 1) _ (omega arith) in
-    rw (← test_is, not-false c.depends.result c.if-not-depends.false) (refl, c.write_entries.ensures ∙ one ∙ none)
+    rw (← test_is, c.if-not-depends.false) record { dependent_after = refl; relations_after = c.write_entries.ensures ∙ one ∙ none }

@@ -1,6 +1,5 @@
 -- `sizing::size::check_size` meets its contract: the rows come in the order of the definition.
 use mathlib.Core.Path.{sym, ◌∙◌}
-use borrow.Author.Rules.{rules}
 use Rattle.forms.proofs.Rules.{head-long}
 use Rattle.sizing.proofs.Answers.{opening_refused, numbers-lacking, numbers_enough}
 use Rattle.forms.proofs.Rules.{opening_passed}

@@ -1,0 +1,13 @@
+-- `labelling::label::label_in` meets its contract. The invariant: the symbol at the place is the one that is asked for. The rule's number falls.
+use mathlib.Core.Path.{◌≡◌, refl, sym, ◌∙◌}
+use native.Mathlib.Omega.{arith}
+use borrow.Author.Rules.{rules}
+use Rattle.places.specs.Position.{symbol_at, Position, Lies}
+use Rattle.labelling.proofs.label.label_in.Given as goal
+
+abbrev pub invariant-loop-terminal : goal.invariant-loop-terminal
+invariant-loop-terminal l = Position l.alphabet l.table l.counts l.at.rule.0 l.at.position
+    × (symbol_at l.alphabet l.table l.at.rule.0 l.at.position ≡ symbol_at l.alphabet l.table l.initial.at.rule.0 l.initial.at.position)
+
+abbrev pub decreases-loop-terminal : goal.decreases-loop-terminal
+decreases-loop-terminal l = l.at.rule.0
