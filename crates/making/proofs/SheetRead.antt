@@ -68,7 +68,7 @@ module _ {s : List ℕ} {l : Layout} (r : SheetRead s l) where
 -- What form making answers and leaves, by its refusal.
 
 module _ (s entry : List ℕ) where
-  abbrev Answered : ℕ → Answer ℕ → List ℕ → Type 0
+  abbrev pub Answered : ℕ → Answer ℕ → List ℕ → Type 0
   Answered refusal given exit =
       (given ≡ answer refusal (length (form_of s))) × ((exit ≡ lent_after refusal (form_of s) entry) × (refusal ≡ 0 → FormMade s (length entry)))
 

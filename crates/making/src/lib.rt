@@ -1,4 +1,5 @@
 // Making a one-hole form from a sheet.
+#![tactic(auto)]
 
 ghost use Rattle.std.specs.Prelude.{◌≡◌, length, ◌≤◌};
 ghost use Rattle.terms.specs.FormBytes.{head_length, behind_head};

@@ -1,4 +1,6 @@
 // The tables of a grammar's rules, from the first rule to the last.
+#![tactic(auto)]
+
 mod bytes;
 mod choice;
 pub mod rules;

@@ -71,7 +71,7 @@ module _ (alphabet form counts tree : List ℕ) where
   abbrev unfold_refused : ℕ
   unfold_refused = unfolding_refusal alphabet form (length counts) (length tree)
 
-  abbrev Outcome : Answer ℕ → List ℕ → List ℕ → Type 0
+  abbrev pub Outcome : Answer ℕ → List ℕ → List ℕ → Type 0
   Outcome given counts' tree' =
       (given ≡ answer unfold_refused (size_of derived))
       × ((tree' ≡ lent_after unfold_refused (preorder derived) tree) × (counts' ≡ lent_after unfold_refused (counts_of alphabet form) counts))

@@ -5,7 +5,6 @@ use mathlib.Core.List.{List}
 use Prim.Native.Nat.{ℕ, ◌+◌, ◌≤◌}
 use native.Mathlib.Omega.{arith}
 use lib.ListN.{length, take, length-append}
-use borrow.Author.Rules.{rules}
 use Rattle.terms.specs.FormBytes.{head_length, terminal_count}
 use Rattle.terms.specs.Calls.{lent_after}
 use Rattle.forms.proofs.Rules.{head-long, parted}

@@ -1,9 +1,8 @@
 -- `adding::add::add_transition` meets its contract: a refusal is answered by its number and leaves the slice as it was; else the answer and the slice are those of the
 -- pass that follows the checks.
 use mathlib.Core.Path.{sym, ◌∙◌}
-use borrow.Author.Rules.{rules}
-use Rattle.terms.proofs.Answer.{is-refused, is-answered}
-use Rattle.terms.proofs.Lent.{lent_kept, lent_written}
+use Rattle.terms.proofs.Answer.{is-answered}
+use Rattle.terms.proofs.Lent.{lent_written}
 use Rattle.adding.proofs.Added.{rightly_added}
 use Rattle.adding.proofs.add.add_transition.Goals as goal
 

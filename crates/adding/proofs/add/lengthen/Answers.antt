@@ -1,5 +1,4 @@
 -- `adding::add::lengthen` meets its contract: the two copies lie one behind the other.
-use borrow.Author.Rules.{rules}
 use Rattle.adding.proofs.Lengthened.{copied_twice}
 use Rattle.adding.proofs.add.lengthen.Goals as goal
 

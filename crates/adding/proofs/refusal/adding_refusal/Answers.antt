@@ -5,7 +5,6 @@ use mathlib.Core.List.{[], ◌∷◌}
 use Prim.Native.Nat.{ℕ}
 use native.Mathlib.Omega.{arith}
 use lib.Dec.{ltb}
-use borrow.Author.Rules.{rules}
 use borrow.Author.Tests.{lt-ltb, le-ltb, le-leb, lt-leb}
 use Rattle.terms.specs.Refusal.{◌when◌, or_else, first}
 use Rattle.terms.specs.Check.{automaton_refusal}
@@ -37,11 +36,12 @@ returns-then-refusal-ne0-2 c =
     or_else (29 when (wrong_transition a.alphabet.now a.automaton.now a.transition.now)) from-form) in
     let from-automaton : ℕ = (let a = c.args in or_else (automaton_refusal a.alphabet.now a.automaton.now) from-transition) in
     let all : ℕ = (let a = c.args in adding_refusal a.alphabet.now a.form.now a.automaton.now a.transition.now a.numbers) in
-    let past_room : {r : ℕ} → r ≡ from-automaton → r ≡ all = (λ e. let room : no_room c.args.automaton.now ≡ false = rw (← c.transition_count.ensures) (lt-leb _ _ c.if-transition_count-ge-MOST_TRANSITIONS.false) in
+    let past_room : (r : ℕ) → r ≡ from-automaton → r ≡ all = (λ r e. let room : no_room c.args.automaton.now ≡ false = rw (← c.transition_count.ensures) (lt-leb _ _ c.if-transition_count-ge-MOST_TRANSITIONS.false) in
     is-next c.check_alphabet-refusal.ensures c.if-refusal-ne0.false (row-fails 14 room e)) in
-    past_room (is-first _ c.check_automaton-refusal.ensures c.if-refusal-ne0-2.true)
+    past_room _ (is-first _ c.check_automaton-refusal.ensures c.if-refusal-ne0-2.true)
 
 pub returns-then-wrong_transition : goal.returns-then-wrong_transition
+unfolding adding_refusal
 returns-then-wrong_transition c =
     let from-form : ℕ = (let a = c.args in
     first (form_refusal a.alphabet.now a.form.now ∷ 19 when (ltb a.numbers (rule_count a.form.now)) ∷ [])) in
@@ -49,12 +49,13 @@ returns-then-wrong_transition c =
     or_else (29 when (wrong_transition a.alphabet.now a.automaton.now a.transition.now)) from-form) in
     let all : ℕ = (let a = c.args in adding_refusal a.alphabet.now a.form.now a.automaton.now a.transition.now a.numbers) in
     let from-automaton : ℕ = (let a = c.args in or_else (automaton_refusal a.alphabet.now a.automaton.now) from-transition) in
-    let past_room : {r : ℕ} → r ≡ from-automaton → r ≡ all = (λ e. let room : no_room c.args.automaton.now ≡ false = rw (← c.transition_count.ensures) (lt-leb _ _ c.if-transition_count-ge-MOST_TRANSITIONS.false) in
+    let past_room : (r : ℕ) → r ≡ from-automaton → r ≡ all = (λ r e. let room : no_room c.args.automaton.now ≡ false = rw (← c.transition_count.ensures) (lt-leb _ _ c.if-transition_count-ge-MOST_TRANSITIONS.false) in
     is-next c.check_alphabet-refusal.ensures c.if-refusal-ne0.false (row-fails 14 room e)) in
-    let past-automaton : {r : ℕ} → r ≡ from-transition → r ≡ all = λ e. past_room (is-next c.check_automaton-refusal.ensures c.if-refusal-ne0-2.false e) in
-    past-automaton (rw (← c.wrong_transition.ensures, c.if-wrong_transition.true))
+    let past-automaton : (r : ℕ) → r ≡ from-transition → r ≡ all = λ r e. past_room _ (is-next c.check_automaton-refusal.ensures c.if-refusal-ne0-2.false e) in
+    past-automaton _ (rw (← c.wrong_transition.ensures, c.if-wrong_transition.true))
 
 pub returns-then-refusal-ne0-3 : goal.returns-then-refusal-ne0-3
+unfolding adding_refusal
 returns-then-refusal-ne0-3 c =
     let from-form : ℕ = (let a = c.args in
     first (form_refusal a.alphabet.now a.form.now ∷ 19 when (ltb a.numbers (rule_count a.form.now)) ∷ [])) in
@@ -62,16 +63,17 @@ returns-then-refusal-ne0-3 c =
     let from-transition : ℕ = (let a = c.args in
     or_else (29 when (wrong_transition a.alphabet.now a.automaton.now a.transition.now)) from-form) in
     let from-automaton : ℕ = (let a = c.args in or_else (automaton_refusal a.alphabet.now a.automaton.now) from-transition) in
-    let past_room : {r : ℕ} → r ≡ from-automaton → r ≡ all = (λ e. let room : no_room c.args.automaton.now ≡ false = rw (← c.transition_count.ensures) (lt-leb _ _ c.if-transition_count-ge-MOST_TRANSITIONS.false) in
+    let past_room : (r : ℕ) → r ≡ from-automaton → r ≡ all = (λ r e. let room : no_room c.args.automaton.now ≡ false = rw (← c.transition_count.ensures) (lt-leb _ _ c.if-transition_count-ge-MOST_TRANSITIONS.false) in
     is-next c.check_alphabet-refusal.ensures c.if-refusal-ne0.false (row-fails 14 room e)) in
-    let past-automaton : {r : ℕ} → r ≡ from-transition → r ≡ all = λ e. past_room (is-next c.check_automaton-refusal.ensures c.if-refusal-ne0-2.false e) in
-    let past-transition : {r : ℕ} → r ≡ from-form → r ≡ all = λ e. past-automaton (row-fails 29 (sym c.wrong_transition.ensures ∙ c.if-wrong_transition.false) e) in
-    past-transition (is-first _ c.check_form-refusal.ensures c.if-refusal-ne0-3.true)
+    let past-automaton : (r : ℕ) → r ≡ from-transition → r ≡ all = λ r e. past_room _ (is-next c.check_automaton-refusal.ensures c.if-refusal-ne0-2.false e) in
+    let past-transition : (r : ℕ) → r ≡ from-form → r ≡ all = λ r e. past-automaton _ (row-fails 29 (sym c.wrong_transition.ensures ∙ c.if-wrong_transition.false) e) in
+    past-transition _ (is-first _ c.check_form-refusal.ensures c.if-refusal-ne0-3.true)
 
 pub rule_count-requires : goal.rule_count-requires
 rule_count-requires c = omega (arith, (form_passed _ _ (sym c.check_form-refusal.ensures ∙ c.if-refusal-ne0-3.false)).long)
 
 pub returns-then-numbers-rule_count : goal.returns-then-numbers-rule_count
+unfolding adding_refusal
 returns-then-numbers-rule_count c =
     let all : ℕ = (let a = c.args in adding_refusal a.alphabet.now a.form.now a.automaton.now a.transition.now a.numbers) in
     let from-form : ℕ = (let a = c.args in
@@ -79,14 +81,15 @@ returns-then-numbers-rule_count c =
     let from-transition : ℕ = (let a = c.args in
     or_else (29 when (wrong_transition a.alphabet.now a.automaton.now a.transition.now)) from-form) in
     let from-automaton : ℕ = (let a = c.args in or_else (automaton_refusal a.alphabet.now a.automaton.now) from-transition) in
-    let past_room : {r : ℕ} → r ≡ from-automaton → r ≡ all = (λ e. let room : no_room c.args.automaton.now ≡ false = rw (← c.transition_count.ensures) (lt-leb _ _ c.if-transition_count-ge-MOST_TRANSITIONS.false) in
+    let past_room : (r : ℕ) → r ≡ from-automaton → r ≡ all = (λ r e. let room : no_room c.args.automaton.now ≡ false = rw (← c.transition_count.ensures) (lt-leb _ _ c.if-transition_count-ge-MOST_TRANSITIONS.false) in
     is-next c.check_alphabet-refusal.ensures c.if-refusal-ne0.false (row-fails 14 room e)) in
-    let past-automaton : {r : ℕ} → r ≡ from-transition → r ≡ all = λ e. past_room (is-next c.check_automaton-refusal.ensures c.if-refusal-ne0-2.false e) in
-    let past-transition : {r : ℕ} → r ≡ from-form → r ≡ all = λ e. past-automaton (row-fails 29 (sym c.wrong_transition.ensures ∙ c.if-wrong_transition.false) e) in
-    let past-form : {r : ℕ} → r ≡ 19 when (ltb c.args.numbers c.rule_count.result) → r ≡ all = λ e. past-transition (is-next c.check_form-refusal.ensures c.if-refusal-ne0-3.false (rw (← c.rule_count.ensures.0) (e ∙ sym (or_none _)))) in
-    past-form (rw (lt-ltb _ _ c.if-numbers-rule_count.true))
+    let past-automaton : (r : ℕ) → r ≡ from-transition → r ≡ all = λ r e. past_room _ (is-next c.check_automaton-refusal.ensures c.if-refusal-ne0-2.false e) in
+    let past-transition : (r : ℕ) → r ≡ from-form → r ≡ all = λ r e. past-automaton _ (row-fails 29 (sym c.wrong_transition.ensures ∙ c.if-wrong_transition.false) e) in
+    let past-form : (r : ℕ) → r ≡ 19 when (ltb c.args.numbers c.rule_count.result) → r ≡ all = λ r e. past-transition _ (is-next c.check_form-refusal.ensures c.if-refusal-ne0-3.false (rw (← c.rule_count.ensures.0) (e ∙ sym (or_none _)))) in
+    past-form _ (rw (lt-ltb _ _ c.if-numbers-rule_count.true))
 
 pub returns : goal.returns
+unfolding adding_refusal
 returns c =
     let all : ℕ = (let a = c.args in adding_refusal a.alphabet.now a.form.now a.automaton.now a.transition.now a.numbers) in
     let from-form : ℕ = (let a = c.args in
@@ -94,9 +97,9 @@ returns c =
     let from-transition : ℕ = (let a = c.args in
     or_else (29 when (wrong_transition a.alphabet.now a.automaton.now a.transition.now)) from-form) in
     let from-automaton : ℕ = (let a = c.args in or_else (automaton_refusal a.alphabet.now a.automaton.now) from-transition) in
-    let past_room : {r : ℕ} → r ≡ from-automaton → r ≡ all = (λ e. let room : no_room c.args.automaton.now ≡ false = rw (← c.transition_count.ensures) (lt-leb _ _ c.if-transition_count-ge-MOST_TRANSITIONS.false) in
+    let past_room : (r : ℕ) → r ≡ from-automaton → r ≡ all = (λ r e. let room : no_room c.args.automaton.now ≡ false = rw (← c.transition_count.ensures) (lt-leb _ _ c.if-transition_count-ge-MOST_TRANSITIONS.false) in
     is-next c.check_alphabet-refusal.ensures c.if-refusal-ne0.false (row-fails 14 room e)) in
-    let past-automaton : {r : ℕ} → r ≡ from-transition → r ≡ all = λ e. past_room (is-next c.check_automaton-refusal.ensures c.if-refusal-ne0-2.false e) in
-    let past-transition : {r : ℕ} → r ≡ from-form → r ≡ all = λ e. past-automaton (row-fails 29 (sym c.wrong_transition.ensures ∙ c.if-wrong_transition.false) e) in
-    let past-form : {r : ℕ} → r ≡ 19 when (ltb c.args.numbers c.rule_count.result) → r ≡ all = λ e. past-transition (is-next c.check_form-refusal.ensures c.if-refusal-ne0-3.false (rw (← c.rule_count.ensures.0) (e ∙ sym (or_none _)))) in
-    past-form (rw (le-ltb _ _ c.if-numbers-rule_count.false))
+    let past-automaton : (r : ℕ) → r ≡ from-transition → r ≡ all = λ r e. past_room _ (is-next c.check_automaton-refusal.ensures c.if-refusal-ne0-2.false e) in
+    let past-transition : (r : ℕ) → r ≡ from-form → r ≡ all = λ r e. past-automaton _ (row-fails 29 (sym c.wrong_transition.ensures ∙ c.if-wrong_transition.false) e) in
+    let past-form : (r : ℕ) → r ≡ 19 when (ltb c.args.numbers c.rule_count.result) → r ≡ all = λ r e. past-transition _ (is-next c.check_form-refusal.ensures c.if-refusal-ne0-3.false (rw (← c.rule_count.ensures.0) (e ∙ sym (or_none _)))) in
+    past-form _ (rw (le-ltb _ _ c.if-numbers-rule_count.false))

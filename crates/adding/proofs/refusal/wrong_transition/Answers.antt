@@ -1,7 +1,5 @@
 -- `adding::refusal::wrong_transition` meets its contract: the transition is tested as the only one of an automaton with the same states, by the same bytes.
 use native.Mathlib.Omega.{arith}
-use borrow.Author.Rules.{rules}
-use borrow.Author.Tests.{ne_eqb}
 use Rattle.terms.proofs.Sheet.Automaton.{AutomatonPassed, automaton_passed}
 use Rattle.adding.proofs.Alone.{alone-fits}
 use Rattle.adding.proofs.refusal.wrong_transition.Goals as goal

@@ -2,7 +2,6 @@
 use mathlib.Core.Path.{◌≡◌, sym, ◌∙◌}
 use Prim.Native.Nat.{◌*◌, ◌≤◌, ◌<◌}
 use native.Mathlib.Omega.{arith}
-use borrow.Author.Rules.{rules}
 use lib.ListN.{length}
 use Rattle.terms.specs.FormBytes.{table_count}
 use Rattle.terms.specs.Calls.{counts_per_rule, size_refusal}
@@ -13,7 +12,7 @@ use Rattle.labelling.proofs.Answers.{label_unsized, label_found}
 use Rattle.labelling.proofs.label.label.Goals as goal
 
 pub returns-then-refusal-ne0 : goal.returns-then-refusal-ne0
-returns-then-refusal-ne0 c = label_unsized _ _ _ _ _ c.check_size-refusal.ensures c.if-refusal-ne0.true
+returns-then-refusal-ne0 c = record { result_value = (label_unsized _ _ _ _ _ c.check_size-refusal.ensures c.if-refusal-ne0.true).0; counts_after = (label_unsized _ _ _ _ _ c.check_size-refusal.ensures c.if-refusal-ne0.true).1 }
 
 pub table_of-table-requires : goal.table_of-table-requires
 table_of-table-requires c =
@@ -44,8 +43,7 @@ label_with-requires c =
 
 pub returns-then-rules-le-FEW_RULES : goal.returns-then-rules-le-FEW_RULES
 returns-then-rules-le-FEW_RULES c =
-    let none : let a = c.args in size_refusal a.alphabet.now a.form.now (length a.counts.now) ≡ 0 = sym c.check_size-refusal.ensures ∙ c.if-refusal-ne0.false in
-    label_found _ _ _ _ none _ c.table_of-table.ensures _ c.start_of-start.ensures _ _ c.label_with.ensures.result_value c.label_with.ensures.counts_after
+    let none : let a = c.args in size_refusal a.alphabet.now a.form.now (length a.counts.now) ≡ 0 = sym c.check_size-refusal.ensures ∙ c.if-refusal-ne0.false in record { result_value = (label_found _ _ _ _ none _ c.table_of-table.ensures _ c.start_of-start.ensures _ _ c.label_with.ensures.result_value c.label_with.ensures.counts_after).0; counts_after = (label_found _ _ _ _ none _ c.table_of-table.ensures _ c.start_of-start.ensures _ _ c.label_with.ensures.result_value c.label_with.ensures.counts_after).1 }
 
 pub label_with-requires-2 : goal.label_with-requires-2
 label_with-requires-2 c =
@@ -57,5 +55,4 @@ label_with-requires-2 c =
 
 pub returns : goal.returns
 returns c =
-    let none : let a = c.args in size_refusal a.alphabet.now a.form.now (length a.counts.now) ≡ 0 = sym c.check_size-refusal.ensures ∙ c.if-refusal-ne0.false in
-    label_found _ _ _ _ none _ c.table_of-table.ensures _ c.start_of-start.ensures _ _ c.label_with-2.ensures.result_value c.label_with-2.ensures.counts_after
+    let none : let a = c.args in size_refusal a.alphabet.now a.form.now (length a.counts.now) ≡ 0 = sym c.check_size-refusal.ensures ∙ c.if-refusal-ne0.false in record { result_value = (label_found _ _ _ _ none _ c.table_of-table.ensures _ c.start_of-start.ensures _ _ c.label_with-2.ensures.result_value c.label_with-2.ensures.counts_after).0; counts_after = (label_found _ _ _ _ none _ c.table_of-table.ensures _ c.start_of-start.ensures _ _ c.label_with-2.ensures.result_value c.label_with-2.ensures.counts_after).1 }

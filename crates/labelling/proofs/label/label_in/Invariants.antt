@@ -1,8 +1,6 @@
 -- `labelling::label::label_in` meets its contract. The invariant: the symbol at the place is the one that is asked for. The rule's number falls.
-use mathlib.Core.Path.{◌≡◌, refl, sym, ◌∙◌}
-use native.Mathlib.Omega.{arith}
-use borrow.Author.Rules.{rules}
-use Rattle.places.specs.Position.{symbol_at, Position, Lies}
+use mathlib.Core.Path.{◌≡◌}
+use Rattle.places.specs.Position.{symbol_at, Position}
 use Rattle.labelling.proofs.label.label_in.Given as goal
 
 abbrev pub invariant-loop-terminal : goal.invariant-loop-terminal

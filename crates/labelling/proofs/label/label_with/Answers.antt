@@ -3,7 +3,6 @@ use mathlib.Core.Path.{◌≡◌, ◌∙◌, ap}
 use mathlib.Core.List.{◌++◌}
 use Prim.Native.Nat.{◌*◌, ◌<◌}
 use native.Mathlib.Omega.{arith}
-use borrow.Author.Rules.{rules}
 use lib.ListN.{drop}
 use Rattle.terms.specs.Form.{value_at}
 use Rattle.terms.specs.FormBytes.{table_count, table_rules}
@@ -11,7 +10,7 @@ use Rattle.terms.specs.Count.{own_nodes, capped}
 use Rattle.terms.specs.Calls.{counts_per_rule, rules_counts}
 use Rattle.terms.specs.Answer.{answered}
 use Rattle.counting.specs.Private.Counts.{CountedTable}
-use Rattle.counting.proofs.Counted.{counts-long, counts-there, own-known}
+use Rattle.counting.proofs.Counted.{own-known}
 use Rattle.sizing.proofs.Answers.{counted_table, counts-copied, counts-left}
 use Rattle.labelling.proofs.Answers.{position_past, position_there}
 use Rattle.labelling.proofs.label.label_with.Goals as goal
@@ -20,8 +19,7 @@ pub returns-then-own_of-position : goal.returns-then-own_of-position
 returns-then-own_of-position c =
     let start-below : c.args.start.0 < table_count c.args.table.now = omega (arith, c.requires.1, c.requires.2) in
     let known : let a = c.args in CountedTable a.alphabet.now a.table.now c.count_nodes.new.counts = counted_table c.requires.0 _ _ c.count_nodes.ensures in
-    let nodes_are : let a = c.args in c.own_of.result ≡ capped (own_nodes (value_at (table_rules a.alphabet.now a.table.now) a.start.0)) = c.own_of.ensures ∙ own-known known _ start-below in
-    position_past _ _ _ _ _ (rw nodes_are at c.if-own_of-position.true)
+    let nodes_are : let a = c.args in c.own_of.result ≡ capped (own_nodes (value_at (table_rules a.alphabet.now a.table.now) a.start.0)) = c.own_of.ensures ∙ own-known known _ start-below in record { result_value = (position_past c.args.alphabet.now c.args.table.now c.args.counts.now c.args.start.0 c.args.position (rw nodes_are at c.if-own_of-position.true)).0; counts_after = (position_past c.args.alphabet.now c.args.table.now c.args.counts.now c.args.start.0 c.args.position (rw nodes_are at c.if-own_of-position.true)).1 }
 
 pub label_in-requires : goal.label_in-requires
 label_in-requires c =

@@ -1,6 +1,5 @@
 -- `lane_calls::call::call_in_lane` meets its contract: the joined relations are applied to the set of the first parameter.
 use mathlib.Core.Path.{◌∙◌}
-use borrow.Author.Rules.{rules}
 use Rattle.lane_calls.proofs.Lanes.{lane_has}
 use Rattle.lane_calls.proofs.Choices.{call-is}
 use Rattle.lane_calls.proofs.call.call_in_lane.Goals as goal

@@ -1,12 +1,9 @@
-use mathlib.Core.Path.{◌≡◌, ap, ◌∙◌}
-use Prim.Native.Nat.{ℕ, ◌+◌, ◌-◌, ◌*◌, ◌≤◌}
+use mathlib.Core.Path.{◌≡◌}
+use Prim.Native.Nat.{ℕ, ◌+◌, ◌-◌, ◌*◌}
 use native.Mathlib.Omega.{arith}
-use borrow.Author.Rules.{rules}
-use lib.ListN.{take, drop, length-take, length-drop}
 use Rattle.blackboard_terms.specs.Blackboard.{table_length}
-use Rattle.blackboard_terms.specs.Step.{call_states, lanes_at}
 use Rattle.blackboard_terms.proofs.Sets.{call_lt}
-use Rattle.lane_calls.proofs.Lanes.{Filled, filled_more}
+use Rattle.lane_calls.proofs.Lanes.{filled_more}
 use Rattle.lane_calls.proofs.call.call_lanes.Goals as goal
 
 -- from the start of a rule's table to its end
