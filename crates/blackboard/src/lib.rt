@@ -1,5 +1,7 @@
 // The blackboard method, straight on a sheet: for each rule a yes or no for every choice of states at its parameters and root (document 02, R-7; source document
 // 003, Theorem 1).
+#![tactic(auto)]
+
 ghost use Rattle.std.specs.Prelude.{◌≡◌, length};
 ghost use Rattle.terms.specs.Answer.{answer, answer_of_mask};
 ghost use Rattle.terms.specs.Sheet.{sheet_mask};

@@ -1,8 +1,5 @@
 -- `marking::mark::mark_read` meets its contract: the sheet's form passes evaluation's checks, and its mask and relations are those of the sheet.
-use mathlib.Core.Path.{sym}
 use native.Mathlib.Omega.{arith}
-use lib.Seq.{length-take-le}
-use borrow.Author.Rules.{rules}
 use Rattle.sheets.proofs.Read.{SheetRead, sheet-read}
 use Rattle.sheets.proofs.Parts.{parts_there, alphabet_part, automaton_part}
 use Rattle.marking.proofs.Marked.{automaton_long, evaluable, verdict_is, slices-left}

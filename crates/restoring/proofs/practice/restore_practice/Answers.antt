@@ -3,11 +3,9 @@ use mathlib.Core.Path.{ap, ◌∙◌}
 use mathlib.Core.List.{List}
 use Prim.Native.Nat.{ℕ}
 use lib.ListN.{length}
-use borrow.Author.Rules.{rules}
 use Rattle.terms.specs.Answer.{answer_of_length}
 use Rattle.terms.specs.Tree.{preorder}
-use Rattle.terms.proofs.Answer.{lies_within}
-use Rattle.practice_terms.specs.Practice.{practice_alphabet, practice_sheet, practice_refusal}
+use Rattle.practice_terms.specs.Practice.{practice_alphabet, practice_sheet}
 use Rattle.practice_terms.specs.Described.{practice_tree}
 use Rattle.practice_terms.specs.Claims.{PracticeRight}
 use Rattle.practice_terms.proofs.Sheet.{written_right}
@@ -24,8 +22,8 @@ returns c =
     let given = c.args in
     let told = c.unfold_written.ensures in
     let calls : RestoringCalls _ _ _ _ _ _ = record {
-      answers = ap answer_of_length told.0 ∙ c.practice-written.ensures.result_value;
+      answers = ap answer_of_length told.written_value ∙ c.practice-written.ensures.result_value;
       writes = c.practice-written.ensures.sheet_after;
-      makes = told.1.0;
-      unfolds = told.1.1;
+      makes = told.made_from;
+      unfolds = told.unfolded_from;
     } in record { calls = calls; demand = calls_restore _ _ _ _ (λ e. practice-is (written_right given.first given.m given.automaton.now (length given.sheet.now) e)) _ _ _ calls }

@@ -3,11 +3,8 @@ use mathlib.Core.Path.{ap, ◌∙◌}
 use mathlib.Core.List.{List}
 use Prim.Native.Nat.{ℕ}
 use lib.ListN.{length}
-use borrow.Author.Rules.{rules}
 use Rattle.terms.specs.Answer.{answer_of_length}
 use Rattle.terms.specs.Sheet.{wrapped}
-use Rattle.terms.specs.Calls.{wrap_refusal}
-use Rattle.terms.proofs.Answer.{lies_within}
 use Rattle.terms.proofs.Sheet.Wrap.{Wrapped, wrap_right}
 use Rattle.restoring.specs.Restore.{RestoringCalls}
 use Rattle.restoring.proofs.Restored.{SheetOf, calls_restore}
@@ -22,8 +19,8 @@ returns c =
     let given = c.args in
     let told = c.unfold_written.ensures in
     let calls : RestoringCalls _ _ _ _ _ _ = record {
-      answers = ap answer_of_length told.0 ∙ c.wrap-written.ensures.result_value;
+      answers = ap answer_of_length told.written_value ∙ c.wrap-written.ensures.result_value;
       writes = c.wrap-written.ensures.sheet_after;
-      makes = told.1.0;
-      unfolds = told.1.1;
+      makes = told.made_from;
+      unfolds = told.unfolded_from;
     } in record { calls = calls; demand = calls_restore _ _ _ _ (λ e. wrapped-is (wrap_right given.alphabet.now given.tree.now given.automaton.now (length given.sheet.now) e)) _ _ _ calls }

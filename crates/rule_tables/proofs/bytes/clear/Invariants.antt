@@ -1,10 +1,7 @@
 -- `rule_tables::bytes::clear` meets its contract. The loop's invariant: the bytes before the place are 0.
-use mathlib.Core.Path.{◌≡◌, refl}
 use Prim.Native.Nat.{◌-◌, ◌≤◌}
-use native.Mathlib.Omega.{arith}
 use lib.ListN.{length}
 use Rattle.rule_tables.specs.Bytes.{BytesWritten}
-use Rattle.rule_tables.proofs.Writing.{written_none, written-more}
 use Rattle.rule_tables.proofs.bytes.clear.Given as goal
 
 abbrev pub invariant-loop-at : goal.invariant-loop-at

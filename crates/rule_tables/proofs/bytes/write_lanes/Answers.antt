@@ -1,9 +1,7 @@
-use mathlib.Core.Path.{◌≡◌, refl}
-use Prim.Native.Nat.{◌-◌, ◌≤◌}
+use mathlib.Core.Path.{refl}
 use native.Mathlib.Omega.{arith}
 use Rattle.blackboard_terms.specs.Step.{lane}
-use Rattle.rule_tables.specs.Bytes.{LanesWritten}
-use Rattle.rule_tables.proofs.Writing.{written_none, written-more}
+use Rattle.rule_tables.proofs.Writing.{written-more}
 use Rattle.rule_tables.proofs.bytes.write_lanes.Goals as goal
 
 pub loop-p-preserved : goal.loop-p-preserved

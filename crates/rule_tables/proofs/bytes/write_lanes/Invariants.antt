@@ -1,10 +1,6 @@
 -- `rule_tables::bytes::write_lanes` meets its contract. The loop's invariant: the lanes before p are written.
-use mathlib.Core.Path.{◌≡◌, refl}
 use Prim.Native.Nat.{◌-◌, ◌≤◌}
-use native.Mathlib.Omega.{arith}
-use Rattle.blackboard_terms.specs.Step.{lane}
 use Rattle.rule_tables.specs.Bytes.{LanesWritten}
-use Rattle.rule_tables.proofs.Writing.{written_none, written-more}
 use Rattle.rule_tables.proofs.bytes.write_lanes.Given as goal
 
 abbrev pub invariant-loop-p : goal.invariant-loop-p

@@ -1,11 +1,7 @@
-use mathlib.Core.Path.{refl}
-use Prim.Native.Nat.{◌-◌}
 use native.Mathlib.Omega.{arith}
-use borrow.Author.Rules.{rules}
 use Rattle.terms.proofs.Sheet.Automaton.{AutomatonPassed, automaton_passed}
 use Rattle.grammars.proofs.Body.{Standing}
-use Rattle.rule_tables.specs.Rules.{RulesReady}
-use Rattle.rule_tables.proofs.Tabling.{Tabling, tabling_none, in_body, in_span, number-few, table_ready, tabling_more, tabling_all}
+use Rattle.rule_tables.proofs.Tabling.{Tabling, in_body, in_span, table_ready, tabling_more, tabling_all}
 use Rattle.rule_tables.proofs.rules.write_tables.Goals as goal
 
 pub link_transitions-links-requires : goal.link_transitions-links-requires

@@ -1,13 +1,8 @@
 -- `rule_tables::rules::write_tables` meets its contract. The invariant: the rules before the present one have their tables, and later bytes are kept. The measure is
 -- the number of rules left.
-use mathlib.Core.Path.{refl}
 use Prim.Native.Nat.{◌-◌}
-use native.Mathlib.Omega.{arith}
-use borrow.Author.Rules.{rules}
-use Rattle.terms.proofs.Sheet.Automaton.{AutomatonPassed, automaton_passed}
-use Rattle.grammars.proofs.Body.{Standing}
 use Rattle.rule_tables.specs.Rules.{RulesReady}
-use Rattle.rule_tables.proofs.Tabling.{Tabling, tabling_none, in_body, in_span, number-few, table_ready, tabling_more, tabling_all}
+use Rattle.rule_tables.proofs.Tabling.{Tabling}
 use Rattle.rule_tables.proofs.rules.write_tables.Given as goal
 
 abbrev pub invariant-loop-rule : goal.invariant-loop-rule

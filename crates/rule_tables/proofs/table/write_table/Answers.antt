@@ -1,9 +1,7 @@
 use mathlib.Core.Path.{◌≡◌, refl, sym, ◌∙◌, ap}
-use mathlib.Core.Logic.{⊎_elim}
 use mathlib.Core.List.{List}
-use Prim.Native.Nat.{ℕ, ◌+◌, ◌*◌, ◌-◌, ◌≤◌, ◌<◌}
+use Prim.Native.Nat.{ℕ, ◌+◌, ◌*◌, ◌≤◌, ◌<◌}
 use native.Mathlib.Omega.{arith}
-use borrow.Author.Rules.{rules}
 use lib.ListN.{length, length-take, length-drop}
 use Rattle.terms.specs.Grammar.{rule_rank}
 use Rattle.terms.specs.Sheet.{state_count}
@@ -12,8 +10,9 @@ use Rattle.terms.proofs.Sheet.Automaton.{automaton_passed}
 use Rattle.blackboard_terms.specs.Blackboard.{table_length}
 use Rattle.rule_tables.specs.Choice.{lanes_of, choices_of}
 use Rattle.rule_tables.specs.Table.{TableReady}
-use Rattle.rule_tables.proofs.Filling.{Filling, rank-few, filling_none, filling_skip, side_ready, filling_more, filling_all, lanes_few, choices-few}
+use Rattle.rule_tables.proofs.Filling.{Filling, filling_none, filling_skip, side_ready, filling_more, filling_all, lanes_few, choices-few}
 use Rattle.rule_tables.proofs.table.write_table.Goals as goal
+use Rattle.rule_tables.proofs.table.write_table.Goals.{then-are_states, else-are_states}
 
 pub bounds-automaton-0 : goal.bounds-automaton-0
 bounds-automaton-0 c =
@@ -72,11 +71,12 @@ loop-choice-preserved c =
     λ entry g f₀.
     (let f = c.loop-choice.invariant entry g f₀ in
     let more : c.loop-choice.choice < choices_of (rule_rank g.given.rules c.args.rule.0) = omega (arith, choices-are _ g) in
-    ⊎_elim {C = Filling g (c.loop-choice.choice + 1) c.if-are_states.tables}
-    (λ w.
-    (let states = sym c.are_states.ensures ∙ w.0.taken in
-    rw w.7 (filling_more g f more states _ (lanes-are _ g) _ (w.2.ensures (side_ready g f more states _ (lanes-are _ g))) _ _ refl w.4.ensures)))
-    (λ w. rw w.1 (filling_skip g f (sym c.are_states.ensures ∙ w.0.left))) c.if-are_states.branch)
+    elim c.if-are_states.branch [
+      | then-are_states w ↦
+          let states = sym c.are_states.ensures ∙ w.if-are_states.true in
+          rw w.tables-is (filling_more g f more states _ (lanes-are _ g) _ (w.side_relation-relation.ensures (side_ready g f more states _ (lanes-are _ g))) _ _ refl w.write_lanes.ensures)
+      | else-are_states w ↦ rw w.tables-is (filling_skip g f (sym c.are_states.ensures ∙ w.if-are_states.false))
+    ])
 
 pub returns : goal.returns
 returns c =

@@ -1,20 +1,9 @@
 -- `rule_tables::table::write_table` meets its contract. The invariant: where the table was cleared, the bytes of the choices passed are written, and the rest is
 -- clear. The measure is the number of choices left.
-use mathlib.Core.Path.{◌≡◌, refl, sym, ◌∙◌, ap}
-use mathlib.Core.Logic.{⊎_elim}
 use mathlib.Core.List.{List}
-use Prim.Native.Nat.{ℕ, ◌+◌, ◌*◌, ◌-◌, ◌≤◌, ◌<◌}
-use native.Mathlib.Omega.{arith}
-use borrow.Author.Rules.{rules}
-use lib.ListN.{length, length-take, length-drop}
-use Rattle.terms.specs.Grammar.{rule_rank}
-use Rattle.terms.specs.Sheet.{state_count}
-use Rattle.terms.specs.Check.{most_rules}
-use Rattle.terms.proofs.Sheet.Automaton.{automaton_passed}
-use Rattle.blackboard_terms.specs.Blackboard.{table_length}
-use Rattle.rule_tables.specs.Choice.{lanes_of, choices_of}
+use Prim.Native.Nat.{ℕ, ◌-◌}
 use Rattle.rule_tables.specs.Table.{TableReady}
-use Rattle.rule_tables.proofs.Filling.{Filling, rank-few, filling_none, filling_skip, side_ready, filling_more, filling_all, lanes_few, choices-few}
+use Rattle.rule_tables.proofs.Filling.{Filling}
 use Rattle.rule_tables.proofs.table.write_table.Given as goal
 
 abbrev pub invariant-loop-choice : goal.invariant-loop-choice
