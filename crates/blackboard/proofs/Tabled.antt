@@ -90,7 +90,7 @@ module _ {s : List ℕ} {l : Layout} (r : SheetRead s l) where
 -- What is answered and left, by the refusal.
 
 module _ (s table : List ℕ) where
-  abbrev Answered : ℕ → Answer ℕ → List ℕ → Type 0
+  abbrev pub Answered : ℕ → Answer ℕ → List ℕ → Type 0
   Answered refusal given table' =
       (given ≡ answer refusal (sheet_mask s)) × ((table' ≡ lent_after refusal (tables_of s) table) × RightByRuns s given table')
 

@@ -26,7 +26,7 @@ module _ (tally : List ℕ) (c : ℕ) (sheet form relations : List ℕ) (v m : �
   refusal = mark_refusal tally c sheet (length form) (length relations)
 
   -- all that is promised: the number, the counts, the slices, the verdict and the mask
-  abbrev Marked : ℕ → List ℕ → List ℕ → List ℕ → ℕ → ℕ → Type 0
+  abbrev pub Marked : ℕ → List ℕ → List ℕ → List ℕ → ℕ → ℕ → Type 0
   Marked n tally' form' relations' x y =
       (n ≡ refusal)
       × ((tally' ≡ tally_left tally c sheet (length form) (length relations))

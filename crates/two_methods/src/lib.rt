@@ -1,4 +1,6 @@
 // The blackboard method and the four calls of demand 3, over one sheet: the course teaches both, and they answer the same mask (document 02, R-7).
+#![tactic(auto)]
+
 ghost use Rattle.certificate.specs.Certify.{slices};
 ghost use Rattle.two_methods.specs.Methods.{BothCalled, SameMask};
 

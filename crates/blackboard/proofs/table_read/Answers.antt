@@ -1,6 +1,5 @@
 -- `table_read` meets its contract: the parts of a sheet that was read are a grammar over its alphabet and an automaton, and its start is its last rule.
 use native.Mathlib.Omega.{arith}
-use borrow.Author.Rules.{rules}
 use Rattle.sheets.proofs.Read.{SheetRead, sheet-read}
 use Rattle.sheets.proofs.Parts.{parts_there, alphabet_part, rules_part, automaton_part}
 use Rattle.blackboard.proofs.Tabled.{some-rule, ready, sheet-tabled}
