@@ -27,11 +27,11 @@
  * where none writes what another one is given.
  *
  * Stack. The most bytes that each call was seen to take, on the inputs of link/stack.c, which go deepest; link/stack measures them anew.
- *   ewf_room 238            ewf_make_form 11,172    ewf_mark 11,364      ewf_evaluate 2,916     ewf_size 152     ewf_label 33,016
- *   ewf_read_rule 88        ewf_unfold 329,744      ewf_walk 524,924     ewf_wrap 216           ewf_practice 168 ewf_blackboard 4,920
- *   ewf_add_transition 6,344
- * Unfolding takes 144 bytes for each level of a form's rules, the walk 128 for each level of its tree. No other call goes deeper with
- * what it is given, save making and marking, which take 8,484 to 8,788 and 8,676 to 8,980 on the sheets W, K7 and billions of samples/.
+ *   ewf_room 213            ewf_make_form 10,400    ewf_mark 10,560      ewf_evaluate 3,316     ewf_size 112     ewf_label 32,960
+ *   ewf_read_rule 48        ewf_unfold 264,192      ewf_walk 393,868     ewf_wrap 248           ewf_practice 200 ewf_blackboard 5,416
+ *   ewf_add_transition 6,848
+ * Unfolding takes 112 bytes for each level of a form's rules, the walk 96 for each level of its tree. No other call goes deeper with
+ * what it is given, save making and marking, which take less on smaller sheets.
  *
  * Pace. Where ewf_evaluate, ewf_mark and ewf_add_transition compose two relations (rules of kind 3), or apply one to a set of states (rules
  * of kind 2), they run the same instructions whatever bits these have; link/pace tests this. How long matching a node with transitions
