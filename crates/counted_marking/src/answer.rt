@@ -3,7 +3,7 @@ use marking::answer::Mark;
 use tallies::tally::Tally;
 
 // The answer, and the tally that it leaves.
-#[derive(Drop)]
+#[derive(Clone, Copy)]
 pub struct Marking {
     pub mark: Mark,
     pub tally: Tally,

@@ -23,7 +23,7 @@ pub enum RuleReading {
 
 // A form that was opened: its bytes, the number of its rules, and what opening refused (0 where nothing). Its fields are this crate's own, so that only `open`
 // makes one.
-#[derive(Drop)]
+#[derive(Clone, Copy)]
 pub struct OpenForm<'a> {
     form: &'a [u8],
     rules: usize,

@@ -20,13 +20,13 @@ pub const TURNED_AWAY: usize = 2;
 pub const COUNTS: usize = CANDIDATES * WAYS;
 
 // The counts of candidate c stand at 3 * c, 3 * c + 1 and 3 * c + 2.
-#[derive(Drop)]
+#[derive(Clone, Copy)]
 pub struct Tally {
     pub counts: [u32; COUNTS],
 }
 
 // What a step answers: its refusal, 0 where there is none, and the tally that it leaves, which is as it was where the step is refused.
-#[derive(Drop)]
+#[derive(Clone, Copy)]
 pub struct Step {
     pub refusal: u8,
     pub tally: Tally,

@@ -1,8 +1,7 @@
 -- `tallies::tally::count_up` meets its contract: nothing is refused, so the count stands in the slice and is not the largest.
 use Prim.Native.Nat.{◌+◌, ◌*◌}
 use native.Mathlib.Omega.{arith}
-use borrow.Author.Rules.{rules}
-use Rattle.tallies.proofs.Steps.{Free, free}
+use Rattle.tallies.proofs.Steps.{free}
 use Rattle.tallies.proofs.tally.count_up.Goals as goal
 
 pub overflow_add-counts : goal.overflow_add-counts

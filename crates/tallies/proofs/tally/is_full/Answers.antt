@@ -1,5 +1,4 @@
 -- `tallies::tally::is_full` meets its contract: the counts of the line are tested one by one.
-use borrow.Author.Rules.{rules}
 use Rattle.tallies.proofs.Steps.{full-accepted, full-declined, full_away}
 use Rattle.tallies.proofs.tally.is_full.Goals as goal
 

@@ -1,7 +1,6 @@
 -- `tallies::tally::tally_refusal` meets its contract: the candidate is looked for first, then the counts of its line.
 use mathlib.Core.Path.{sym, ◌∙◌}
 use native.Mathlib.Omega.{arith}
-use borrow.Author.Rules.{rules}
 use Rattle.tallies.proofs.Steps.{gives_26, gives_25, gives_none}
 use Rattle.tallies.proofs.tally.tally_refusal.Goals as goal
 

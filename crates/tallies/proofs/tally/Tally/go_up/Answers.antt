@@ -1,7 +1,6 @@
 -- `tallies::tally::Tally::go_up` meets its contract: the counts are moved in place, or stay.
 use mathlib.Core.Path.{sym, ◌∙◌}
 use native.Mathlib.Omega.{arith}
-use borrow.Author.Rules.{rules}
 use Rattle.tallies.proofs.Steps.{step-refused, step_moved}
 use Rattle.tallies.proofs.tally.Tally.go_up.Goals as goal
 
