@@ -27,10 +27,10 @@
  * where none writes what another one is given.
  *
  * Stack. The most bytes that each call was seen to take, on the inputs of link/stack.c, which go deepest; link/stack measures them anew.
- *   ewf_room 213            ewf_make_form 10,400    ewf_mark 10,560      ewf_evaluate 3,316     ewf_size 112     ewf_label 32,960
- *   ewf_read_rule 48        ewf_unfold 264,192      ewf_walk 393,868     ewf_wrap 248           ewf_practice 200 ewf_blackboard 5,416
- *   ewf_add_transition 6,848
- * Unfolding takes 112 bytes for each level of a form's rules, the walk 96 for each level of its tree. No other call goes deeper with
+ *   ewf_room 277            ewf_make_form 8,080     ewf_mark 9,280       ewf_evaluate 1,288     ewf_size 152     ewf_label 32,984
+ *   ewf_read_rule 104       ewf_unfold 229,432      ewf_walk 328,828     ewf_wrap 248           ewf_practice 200 ewf_blackboard 3,752
+ *   ewf_add_transition 4,888
+ * Unfolding takes 96 bytes for each level of a form's rules, the walk 80 for each level of its tree. No other call goes deeper with
  * what it is given, save making and marking, which take less on smaller sheets.
  *
  * Pace. Where ewf_evaluate, ewf_mark and ewf_add_transition compose two relations (rules of kind 3), or apply one to a set of states (rules

@@ -1,5 +1,6 @@
 // What is refused of a transition that is to be added.
 ghost use Rattle.std.specs.Prelude.{◌≡◌};
+ghost use Rattle.terms.specs.Answer.{refusal_of};
 ghost use Rattle.terms.specs.Check.{automaton_refusal};
 ghost use Rattle.adding_terms.specs.Adding.{wrong_transition, adding_refusal};
 
@@ -9,6 +10,7 @@ use checks::alphabet::check_alphabet;
 use checks::bytes::copy_at;
 use form_bytes::layout;
 use forms::check::check_form;
+use terms::refusals::Refusal;
 
 // The new transition is not whole, or names what does not exist. It is tested as the only transition of an automaton with the same states.
 fn wrong_transition(alphabet: &[u8], automaton: &[u8], transition: &[u8]) -> bool
@@ -24,37 +26,29 @@ fn wrong_transition(alphabet: &[u8], automaton: &[u8], transition: &[u8]) -> boo
     !transition_fits(alphabet, &alone, 0)
 }
 
-// What is refused of alphabet, old automaton, new transition, form and the length of the slice; 0 where nothing is. An automaton that is full gets 14 before its
-// states and transitions are looked at, because the longer one would be too long.
-pub fn adding_refusal(
+// What is refused of alphabet, old automaton, new transition, form and the length of the slice. An automaton that is full gets 14 before its states and transitions
+// are looked at, because the longer one would be too long.
+#[tactic(auto, using(terms::proofs::InTurn::in_turn), unfolding(adding_terms::specs::Adding::adding_refusal))]
+pub fn check_adding(
     alphabet: &[u8],
     form: &[u8],
     automaton: &[u8],
     transition: &[u8],
     numbers: usize,
-) -> u8
-    ensures { result ≡ adding_refusal alphabet.now form.now automaton.now transition.now numbers }
+) -> Result<(), Refusal>
+    ensures { refusal_of result ≡ adding_refusal alphabet.now form.now automaton.now transition.now numbers }
 {
-    let refusal = check_alphabet(alphabet);
-    if refusal != 0 {
-        return refusal;
-    }
+    check_alphabet(alphabet)?;
     if MOST_TRANSITIONS <= transition_count(automaton) {
-        return 14;
+        return Err(Refusal::AutomatonLength);
     }
-    let refusal = check_automaton(alphabet, automaton);
-    if refusal != 0 {
-        return refusal;
-    }
+    check_automaton(alphabet, automaton)?;
     if wrong_transition(alphabet, automaton, transition) {
-        return 29;
+        return Err(Refusal::NewTransition);
     }
-    let refusal = check_form(alphabet, form);
-    if refusal != 0 {
-        return refusal;
-    }
+    check_form(alphabet, form)?;
     if numbers < layout::rule_count(form) {
-        return 19;
+        return Err(Refusal::WorkShort);
     }
-    0
+    Ok(())
 }

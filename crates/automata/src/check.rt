@@ -1,5 +1,6 @@
 // The automaton: its number of states, its final states, and its transitions, of 6 bytes each.
 ghost use Rattle.std.specs.Prelude.{◌≡◌, ◌+◌, ◌*◌, ◌≤◌, length};
+ghost use Rattle.terms.specs.Answer.{refusal_of};
 ghost use Rattle.terms.specs.Test.{every};
 ghost use Rattle.terms.specs.Sheet.{state_count, transition_count, transition_byte};
 ghost use Rattle.terms.specs.Check.{child_fits, transition_fits, wrong_length, wrong_states, automaton_refusal};
@@ -7,6 +8,7 @@ ghost use Rattle.terms.specs.Check.{child_fits, transition_fits, wrong_length, w
 use crate::limits::{MOST_STATES, MOST_TRANSITIONS};
 use checks::alphabet;
 use checks::limits::HIGHEST_RANK;
+use terms::refusals::Refusal;
 use terms::{State, Terminal};
 
 // How many bytes stand before the transitions: the number of states, and the final states.
@@ -25,10 +27,7 @@ const UNUSED: u8 = 0xFF;
 pub fn transition_count(automaton: &[u8]) -> usize
     ensures { result ≡ transition_count automaton.now }
 {
-    if automaton.len() < HEAD {
-        return 0;
-    }
-    (automaton.len() - HEAD) / TRANSITION
+    automaton.len().saturating_sub(HEAD) / TRANSITION
 }
 
 // Child state `j` of a transition whose terminal has the rank `rank` is a state where it is used, else unused.
@@ -47,9 +46,7 @@ fn children_fit(automaton: &[u8], i: usize, rank: u8) -> bool
     ensures { result ≡ every 4 (λ j. child_fits (state_count automaton.now) rank j (transition_byte automaton.now i (2 + j))) }
 {
     let states = automaton[0];
-    let mut j = HIGHEST_RANK;
-    while 0 < j {
-        j -= 1;
+    for j in (0..HIGHEST_RANK).rev() {
         let child = State(automaton[HEAD + TRANSITION * i + (CHILDREN + j as usize)]);
         if !child_fits(states, rank, j, child) {
             return false;
@@ -79,9 +76,7 @@ pub fn transition_fits(alphabet: &[u8], automaton: &[u8], i: usize) -> bool
 fn transitions_fit(alphabet: &[u8], automaton: &[u8]) -> bool
     ensures { result ≡ every (transition_count automaton.now) (transition_fits alphabet.now automaton.now) }
 {
-    let mut i = transition_count(automaton);
-    while 0 < i {
-        i -= 1;
+    for i in (0..transition_count(automaton)).rev() {
         if !transition_fits(alphabet, automaton, i) {
             return false;
         }
@@ -116,18 +111,18 @@ fn wrong_states(states: u8, finals: u8) -> bool
     (1u16 << states) <= finals as u16
 }
 
-// The refusal of an automaton over an alphabet: 14 for its length, 15 for its states, 16 for a transition, 0 where it passes.
-pub fn check_automaton(alphabet: &[u8], automaton: &[u8]) -> u8
-    ensures { result ≡ automaton_refusal alphabet.now automaton.now }
+// What is refused of an automaton over an alphabet: 14 for its length, 15 for its states, 16 for a transition.
+pub fn check_automaton(alphabet: &[u8], automaton: &[u8]) -> Result<(), Refusal>
+    ensures { refusal_of result ≡ automaton_refusal alphabet.now automaton.now }
 {
     if wrong_length(automaton) {
-        return 14;
+        return Err(Refusal::AutomatonLength);
     }
     if wrong_states(automaton[0], automaton[1]) {
-        return 15;
+        return Err(Refusal::States);
     }
-    if transitions_fit(alphabet, automaton) {
-        return 0;
+    if !transitions_fit(alphabet, automaton) {
+        return Err(Refusal::Transition);
     }
-    16
+    Ok(())
 }

@@ -1,5 +1,6 @@
 -- Reading a rule into a slice: the call's refusal and slice by what reading a number answered, and the seven numbers in their places.
-use mathlib.Core.Path.{◌≡◌, refl, subst}
+use mathlib.Core.Path.{◌≡◌, refl}
+use native.Mathlib.Decide.{dec_le}
 use mathlib.Core.List.{List, [], ◌∷◌, ◌++◌}
 use Prim.Native.Nat.{ℕ, zero, suc, ◌≤◌}
 use native.Mathlib.Omega.{arith}
@@ -7,7 +8,9 @@ use borrow.Author.Tests.{le-leb, le-ltb}
 use lib.Dec.{leb}
 use lib.ListN.{length, drop, set}
 use Rattle.terms.specs.Refusal.{◌when◌, first}
-use Rattle.terms.specs.Answer.{Answer, refused, answered, answer}
+use Rattle.std.specs.Prelude.{Result, Ok, Err, min}
+use Rattle.terms.specs.declared.refusals.Refusal.{Refusal}
+use Rattle.terms.specs.Answer.{answer, answer_of, refusal_of}
 use Rattle.terms.specs.FormBytes.{rule_count, table_of}
 use Rattle.terms.specs.Calls.{lent_after, opening_refusal, reading_refusal}
 use Rattle.form_bytes.specs.declared.rule.FormRule.{FormRule}
@@ -15,7 +18,6 @@ use Rattle.form_bytes.specs.Fields.{fields_at}
 use Rattle.forms.proofs.Rules.{passed, opening_passed}
 use Rattle.opening.specs.Reading.{rule_reading}
 use Rattle.capi.specs.Result.{rule_numbers, rule_call_refusal}
-use Rattle.capi.proofs.Answered.{number_of}
 
 -- two numbers that no rule has are read alike
 module _ (alphabet form : List ℕ) (i j : ℕ) (l : i ≤ j) where
@@ -28,18 +30,30 @@ module _ (alphabet form : List ℕ) (i j : ℕ) (l : i ≤ j) where
   unfolding rule_reading reading_refusal
   read_alike h = by_refusal (opening_refusal alphabet form) _ _ (λ e. let (a, f) = opening_passed alphabet form e in omega (arith, (passed alphabet form a f).few))
 
--- the slice after a reading
-abbrev slice_after : Answer FormRule → List ℕ → List ℕ
-slice_after (refused n) entry = entry
-slice_after (answered rule) entry = rule_numbers rule ++ drop 7 entry
+-- what reading a number answered, where all numbers that no rule has are read as the largest
+pub read_within : (alphabet form : List ℕ) (number : ℕ) → rule_reading alphabet form (min number 65535) ≡ rule_reading alphabet form number
+read_within alphabet form number = go (dec_le number 65535)
+  where
+    go : Dec (number ≤ 65535) → rule_reading alphabet form (min number 65535) ≡ rule_reading alphabet form number
+    go (yes h) = let e : min number 65535 ≡ number = omega arith in rw e
+    go (no h) = let e : min number 65535 ≡ 65535 = omega arith in rw e (read_alike alphabet form 65535 number (omega arith) (omega arith))
 
-said_by : (k : ℕ) (v : FormRule) (entry : List ℕ) (r : Answer FormRule) → answer k v ≡ r → (number_of r ≡ k) × (slice_after r entry ≡ lent_after k (rule_numbers v) entry)
-said_by zero v entry r e = subst (λ (x : Answer FormRule). (number_of x ≡ zero) × (slice_after x entry ≡ lent_after zero (rule_numbers v) entry)) e (refl, refl)
-said_by (suc k) v entry r e = subst (λ (x : Answer FormRule). (number_of x ≡ suc k) × (slice_after x entry ≡ lent_after (suc k) (rule_numbers v) entry)) e (refl, refl)
+-- the slice after a reading
+abbrev slice_after : Result FormRule Refusal → List ℕ → List ℕ
+slice_after (Ok rule) entry = rule_numbers rule ++ drop 7 entry
+slice_after (Err refusal) entry = entry
+
+said_by : (k : ℕ) (v : FormRule) (entry : List ℕ) (r : Result FormRule Refusal) → answer_of r ≡ answer k v
+    → (refusal_of r ≡ k) × (slice_after r entry ≡ lent_after k (rule_numbers v) entry)
+said_by zero v entry (Ok rule) e = let is : rule ≡ v = cc in rw is (refl, refl)
+said_by zero v entry (Err refusal) e = absurd (let z : ◌≡◌ {A = ℕ} 0 1 = cc in omega arith)
+said_by (suc k) v entry (Ok rule) e = absurd (let z : ◌≡◌ {A = ℕ} 0 1 = cc in omega arith)
+said_by (suc k) v entry (Err refusal) e = (cc, refl)
 
 -- with seven places the call refuses what reading refuses, and writes what it reads
-pub reading_said : (alphabet form : List ℕ) (number : ℕ) (entry : List ℕ) (r : Answer FormRule) → 7 ≤ length entry → rule_reading alphabet form number ≡ r
-    → (let refusal = rule_call_refusal alphabet form number (length entry) in (number_of r ≡ refusal) × (slice_after r entry ≡ lent_after refusal (rule_numbers (fields_at (table_of form) number)) entry))
+pub reading_said : (alphabet form : List ℕ) (number : ℕ) (entry : List ℕ) (r : Result FormRule Refusal) → 7 ≤ length entry → answer_of r ≡ rule_reading alphabet form number
+    → (let refusal = rule_call_refusal alphabet form number (length entry) in
+    (refusal_of r ≡ refusal) × (slice_after r entry ≡ lent_after refusal (rule_numbers (fields_at (table_of form) number)) entry))
 unfolding rule_reading reading_refusal rule_call_refusal
 reading_said alphabet form number entry r h e = rw (le-ltb (length entry) 7 h) (said_by (reading_refusal alphabet form number) (fields_at (table_of form) number) entry r e)
 

@@ -1,5 +1,6 @@
 -- Results that a call hands out through a pointer (document 01, "Refusals with a sheet for each": a refusal is its number only).
-use Rattle.std.specs.Prelude.{List, [], ◌∷◌, ℕ, zero, suc, leb, ltb}
+use Rattle.std.specs.Prelude.{List, [], ◌∷◌, ℕ, zero, suc, leb, ltb, Result, Ok, Err}
+use Rattle.terms.specs.declared.refusals.Refusal.{Refusal}
 use Rattle.terms.specs.Refusal.{◌when◌, first}
 use Rattle.terms.specs.FormBytes.{rule_count}
 use Rattle.terms.specs.Count.{Size, exact, over, largest}
@@ -10,6 +11,11 @@ use Rattle.form_bytes.specs.declared.rule.FormRule.{FormRule}
 abbrev pub result_after : ℕ → ℕ → ℕ → ℕ
 result_after zero result before = result
 result_after (suc n) result before = before
+
+-- what stands behind the pointer after a call: the value that is answered, or what stood there before where the call was refused (01 Refusals)
+abbrev pub value_or : {A : Type 0} → Result A Refusal → A → A
+value_or (Ok value) before = value
+value_or (Err refusal) before = before
 
 -- a size as a number of 64 bits: the largest represents "over" (01 Size, label)
 abbrev pub size_number : Size → ℕ

@@ -7,17 +7,16 @@ ghost use Rattle.terms.specs.Calls.{lent_after, evaluation_refusal, relations_of
 ghost use Rattle.adding_terms.specs.Adding.{adding_refusal, added_relations, added_mask};
 ghost use Rattle.capi.specs.Result.{result_after, size_number};
 
+use crate::answers::hand_out;
 use adding::add::add_transition;
 use evaluation::evaluate::evaluate;
-use labelling::answer::Label;
 use labelling::label::label;
-use sizing::answer::Size;
 use sizing::size::size;
-use terms::answers::{LengthAnswer, MaskAnswer};
 use unfolding::unfold::unfold;
 
 // The mask of the states that runs on the form's tree end in.
 #[unsafe(no_mangle)]
+#[tactic(auto, using(crate::proofs::Answered::said))]
 pub extern "C" fn ewf_evaluate(
     alphabet: &[u8],
     automaton: &[u8],
@@ -29,17 +28,12 @@ pub extern "C" fn ewf_evaluate(
     ensures relations { relations.new ≡ lent_after (evaluation_refusal alphabet.now automaton.now form.now (length relations.old)) (relations_of alphabet.now automaton.now form.now) relations.old }
     ensures mask { mask.new ≡ result_after (evaluation_refusal alphabet.now automaton.now form.now (length relations.old)) (form_mask alphabet.now automaton.now form.now) mask.old }
 {
-    match evaluate(alphabet, automaton, form, relations) {
-        MaskAnswer::Refused(n) => n,
-        MaskAnswer::Mask(states) => {
-            *mask = states;
-            0
-        }
-    }
+    hand_out(evaluate(alphabet, automaton, form, relations), mask)
 }
 
 // The relations of an automaton carried over to one with a transition more, and the mask by them.
 #[unsafe(no_mangle)]
+#[tactic(auto, using(crate::proofs::Answered::said))]
 pub extern "C" fn ewf_add_transition(
     alphabet: &[u8],
     form: &[u8],
@@ -52,17 +46,15 @@ pub extern "C" fn ewf_add_transition(
     ensures relations { relations.new ≡ lent_after (adding_refusal alphabet.now form.now automaton.now transition.now (length relations.old)) (added_relations alphabet.now form.now automaton.now transition.now relations.old) relations.old }
     ensures mask { mask.new ≡ result_after (adding_refusal alphabet.now form.now automaton.now transition.now (length relations.old)) (added_mask alphabet.now form.now automaton.now transition.now relations.old) mask.old }
 {
-    match add_transition(alphabet, form, automaton, transition, relations) {
-        MaskAnswer::Refused(n) => n,
-        MaskAnswer::Mask(carried) => {
-            *mask = carried;
-            0
-        }
-    }
+    hand_out(
+        add_transition(alphabet, form, automaton, transition, relations),
+        mask,
+    )
 }
 
 // The form's tree in preorder, and how many nodes it has.
 #[unsafe(no_mangle)]
+#[tactic(auto, using(crate::proofs::Answered::said))]
 pub extern "C" fn ewf_unfold(
     alphabet: &[u8],
     form: &[u8],
@@ -75,37 +67,23 @@ pub extern "C" fn ewf_unfold(
     ensures counts { counts.new ≡ lent_after (unfolding_refusal alphabet.now form.now (length counts.old) (length tree.old)) (counts_of alphabet.now form.now) counts.old }
     ensures nodes { nodes.new ≡ result_after (unfolding_refusal alphabet.now form.now (length counts.old) (length tree.old)) (size_of (form_tree alphabet.now form.now)) nodes.old }
 {
-    match unfold(alphabet, form, counts, tree) {
-        LengthAnswer::Refused(n) => n,
-        LengthAnswer::Written(n) => {
-            *nodes = n;
-            0
-        }
-    }
+    hand_out(unfold(alphabet, form, counts, tree), nodes)
 }
 
 // How many nodes the form's tree has; the largest number of 64 bits represents "over".
 #[unsafe(no_mangle)]
+#[tactic(auto, using(crate::proofs::Answered::said))]
 pub extern "C" fn ewf_size(alphabet: &[u8], form: &[u8], counts: &mut [u64], nodes: &mut u64) -> u8
     ensures refusal { result ≡ size_refusal alphabet.now form.now (length counts.old) }
     ensures counts { counts.new ≡ lent_after (size_refusal alphabet.now form.now (length counts.old)) (counts_of alphabet.now form.now) counts.old }
     ensures nodes { nodes.new ≡ result_after (size_refusal alphabet.now form.now (length counts.old)) (size_number (size_answer (size_of (form_tree alphabet.now form.now)))) nodes.old }
 {
-    match size(alphabet, form, counts) {
-        Size::Refused(n) => n,
-        Size::Exact(n) => {
-            *nodes = n;
-            0
-        }
-        Size::Over => {
-            *nodes = u64::MAX;
-            0
-        }
-    }
+    hand_out(size(alphabet, form, counts).map(u64::from), nodes)
 }
 
 // The terminal at a preorder position of the form's tree.
 #[unsafe(no_mangle)]
+#[tactic(auto, using(crate::proofs::Answered::said))]
 pub extern "C" fn ewf_label(
     alphabet: &[u8],
     form: &[u8],
@@ -117,11 +95,8 @@ pub extern "C" fn ewf_label(
     ensures counts { counts.new ≡ lent_after (label_refusal alphabet.now form.now position (length counts.old)) (counts_of alphabet.now form.now) counts.old }
     ensures terminal { terminal.new ≡ result_after (label_refusal alphabet.now form.now position (length counts.old)) (label_at alphabet.now form.now position) terminal.old }
 {
-    match label(alphabet, form, position, counts) {
-        Label::Refused(n) => n,
-        Label::At(found) => {
-            *terminal = found.0;
-            0
-        }
-    }
+    hand_out(
+        label(alphabet, form, position, counts).map(|found| found.0),
+        terminal,
+    )
 }

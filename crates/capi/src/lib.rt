@@ -1,6 +1,7 @@
 // The calls under C names. Each answers 0 or the refusal's number; results go through references, which a refusal leaves as they were.
 #![tactic(auto)]
 
+mod answers;
 pub mod form_calls;
 pub mod mark_call;
 pub mod practice_call;

@@ -1,13 +1,24 @@
 // Marking for a candidate, with the tally as a slice of 48 counts: those of candidate c at 3 * c, 3 * c + 1 and 3 * c + 2, accepted, declined and turned away.
 ghost use Rattle.std.specs.Prelude.{◌≡◌, length};
 ghost use Rattle.terms.specs.Sheet.{sheet_mask, sheet_verdict};
-ghost use Rattle.marking.specs.Marking.{SlicesLeft};
+ghost use Rattle.marking.specs.Marking.{SlicesLeft, verdict_of};
 ghost use Rattle.capi.specs.Result.{result_after};
 ghost use Rattle.capi.specs.Mark.{verdict_number, mark_refusal, tally_left};
 
 use counted_marking::mark::mark_among;
-use marking::answer::Mark;
+use marking::answer::Verdict;
 use tallies::tally::COUNTS;
+use terms::refusals::Refusal;
+
+// The number of a verdict: 1 accepted, 0 declined.
+fn verdict_number(verdict: Verdict) -> u8
+    ensures { result ≡ verdict_number (verdict_of verdict) }
+{
+    match verdict {
+        Verdict::Accepted => 1,
+        Verdict::Declined => 0,
+    }
+}
 
 // Marks a sheet for a candidate: the verdict, 1 accepted and 0 declined, and the mask. A tally of fewer than 48 counts is refused by 19, before all else.
 #[unsafe(no_mangle)]
@@ -27,19 +38,14 @@ pub extern "C" fn ewf_mark(
     ensures mask { mask.new ≡ result_after (mark_refusal tally.old candidate sheet.now (length form.old) (length relations.old)) (sheet_mask sheet.now) mask.old }
 {
     if tally.len() < COUNTS {
-        return 19;
+        return Refusal::WorkShort.number();
     }
     match mark_among(sheet, form, relations, candidate, tally) {
-        Mark::Refused(n) => n,
-        Mark::Accepted(states) => {
-            *verdict = 1;
-            *mask = states;
+        Ok(mark) => {
+            *verdict = verdict_number(mark.verdict);
+            *mask = mark.mask;
             0
         }
-        Mark::Declined(states) => {
-            *verdict = 0;
-            *mask = states;
-            0
-        }
+        Err(refusal) => refusal.number(),
     }
 }

@@ -4,11 +4,12 @@ ghost use Rattle.terms.specs.Calls.{lent_after};
 ghost use Rattle.practice_terms.specs.Practice.{practice_sheet, practice_refusal};
 ghost use Rattle.capi.specs.Result.{result_after};
 
+use crate::answers::hand_out;
 use practice_sheets::practice::practice;
-use terms::answers::LengthAnswer;
 
 // The practice sheet of a first x and m, and its length.
 #[unsafe(no_mangle)]
+#[tactic(auto, using(crate::proofs::Answered::said))]
 pub extern "C" fn ewf_practice(
     first: u32,
     m: usize,
@@ -20,11 +21,5 @@ pub extern "C" fn ewf_practice(
     ensures sheet { sheet.new ≡ lent_after (practice_refusal first m automaton.now (length sheet.old)) (practice_sheet first m automaton.now) sheet.old }
     ensures written { written.new ≡ result_after (practice_refusal first m automaton.now (length sheet.old)) (length (practice_sheet first m automaton.now)) written.old }
 {
-    match practice(first, m, automaton, sheet) {
-        LengthAnswer::Refused(n) => n,
-        LengthAnswer::Written(n) => {
-            *written = n;
-            0
-        }
-    }
+    hand_out(practice(first, m, automaton, sheet), written)
 }

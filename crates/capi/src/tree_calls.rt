@@ -4,12 +4,13 @@ ghost use Rattle.terms.specs.Sheet.{wrapped};
 ghost use Rattle.terms.specs.Calls.{lent_after, walk_refusal, walk_mask, walk_masks, wrap_refusal};
 ghost use Rattle.capi.specs.Result.{result_after};
 
+use crate::answers::hand_out;
 use plain_walk::walk::walk;
-use terms::answers::{LengthAnswer, MaskAnswer};
 use wrapping::wrap::wrap;
 
 // The mask of the states that runs on a preorder tree end in.
 #[unsafe(no_mangle)]
+#[tactic(auto, using(crate::proofs::Answered::said))]
 pub extern "C" fn ewf_walk(
     alphabet: &[u8],
     automaton: &[u8],
@@ -21,17 +22,12 @@ pub extern "C" fn ewf_walk(
     ensures masks { masks.new ≡ lent_after (walk_refusal alphabet.now automaton.now tree.now (length masks.old)) (walk_masks alphabet.now automaton.now tree.now) masks.old }
     ensures mask { mask.new ≡ result_after (walk_refusal alphabet.now automaton.now tree.now (length masks.old)) (walk_mask alphabet.now automaton.now tree.now) mask.old }
 {
-    match walk(alphabet, automaton, tree, masks) {
-        MaskAnswer::Refused(n) => n,
-        MaskAnswer::Mask(states) => {
-            *mask = states;
-            0
-        }
-    }
+    hand_out(walk(alphabet, automaton, tree, masks), mask)
 }
 
 // A sheet of one rule whose tree is the tree given, and its length.
 #[unsafe(no_mangle)]
+#[tactic(auto, using(crate::proofs::Answered::said))]
 pub extern "C" fn ewf_wrap(
     alphabet: &[u8],
     tree: &[u8],
@@ -43,11 +39,5 @@ pub extern "C" fn ewf_wrap(
     ensures sheet { sheet.new ≡ lent_after (wrap_refusal alphabet.now tree.now automaton.now (length sheet.old)) (wrapped alphabet.now tree.now automaton.now) sheet.old }
     ensures written { written.new ≡ result_after (wrap_refusal alphabet.now tree.now automaton.now (length sheet.old)) (length (wrapped alphabet.now tree.now automaton.now)) written.old }
 {
-    match wrap(alphabet, tree, automaton, sheet) {
-        LengthAnswer::Refused(n) => n,
-        LengthAnswer::Written(n) => {
-            *written = n;
-            0
-        }
-    }
+    hand_out(wrap(alphabet, tree, automaton, sheet), written)
 }

@@ -1,117 +1,103 @@
 -- What adding a rule and adding a cell do to the table and the cells.
 use mathlib.Core.Path.{◌≡◌, refl, ap, ◌∙◌}
 use mathlib.Core.List.{List, [], ◌∷◌, ◌++◌}
-use Prim.Native.Nat.{ℕ, ◌+◌, ◌*◌, ◌≤◌, ◌<◌}
+use Prim.Native.Nat.{ℕ, ◌+◌, ◌≤◌, ◌<◌}
 use native.Mathlib.Omega.{arith}
-use lib.ListN.{length, get_or}
+use lib.ListN.{length, get_or, drop, length-append, length-drop}
 use Rattle.terms.specs.Form.{Rule}
-use Rattle.skeletons.specs.Skeleton.{Skeleton, Skeletons, shut, under, branch}
-use Rattle.skeletons.specs.Skeleton.{size}
+use Rattle.skeletons.specs.Skeleton.{Skeleton, Skeletons, under, branch, size}
 use Rattle.terms.proofs.Form.Valid.{length-end}
 use Rattle.form_bytes.specs.declared.rule.FormRule.{FormRule}
 use Rattle.form_writing.specs.Bytes.{fields_for, Holds}
-use Rattle.cells.specs.Cells.{field, Stands, Row, closed_fields, over_fields, terminal_fields}
-use Rattle.cells.specs.State.{RuleAdded, CellAdded, Room, Grown}
-use Rattle.cells.specs.declared.state.Free.{Free}
-use Rattle.cells.specs.declared.state.Made.{Made}
+use Rattle.cells.specs.Cells.{cell_at, Stands, Row, children_from}
+use Rattle.cells.specs.Builder.{RuleAdded, CellAdded, Room, Grown}
+use Rattle.cells.specs.declared.builder.FormBuilder.{FormBuilder}
+use Rattle.cells.specs.declared.cells.Cell.{Cell}
+use Rattle.cells.specs.declared.cells.Cell.TheVariants.{Over, Terminal}
 use Rattle.form_writing.proofs.Held.{held_more}
-use Rattle.cells.proofs.Standing.{stands-kept, row_kept, row_raised}
+use Rattle.cells.proofs.Standing.{stands-kept, row_kept, row_raised, row_extended}
 
 -- a rule added
 
-module _ {rule : FormRule} {free free' : Free} {table table' : List ℕ} (a : RuleAdded rule free table free' table') (rs : List Rule) (x : Rule) (held : Holds table rs) (counted : free.rule.0 ≡ length rs) where
-  pub added_held : rule ≡ fields_for x → Holds table' (rs ++ (x ∷ []))
-  added_held e = held_more table' table rs x held (rw (e, counted) at a.written)
+module _ {rule : FormRule} {b b' : FormBuilder} {number : ℕ} (a : RuleAdded rule b number b') (rs : List Rule) (x : Rule) (held : Holds b.table.now rs) (counted : b.next_rule.0 ≡ length rs) where
+  pub added_held : rule ≡ fields_for x → Holds b'.table.now (rs ++ (x ∷ []))
+  added_held e = held_more b'.table.now b.table.now rs x held (rw (e, counted) at a.written)
 
-  pub added_counted : free'.rule.0 ≡ length (rs ++ (x ∷ []))
+  pub added_counted : b'.next_rule.0 ≡ length (rs ++ (x ∷ []))
   added_counted = omega (arith, a.next, length-end rs x)
 
 -- a cell added
 
-module _ {fields space space' : List ℕ} {free : Free} {r : Made} (b : CellAdded fields free space r space') where
-  new-field : (k : ℕ) → k < 7 → field space' r.cell k ≡ get_or fields k 0
-  new-field k h = ap (λ (c : ℕ). field space' c k) b.made ∙ b.written.field k h
+module _ {cell : Cell} {b b' : FormBuilder} {number : ℕ} (a : CellAdded cell b number b') where
+  pub new-cell : cell_at b'.cells number ≡ cell
+  new-cell = ap (cell_at b'.cells) a.numbered ∙ a.there
 
-  pub old-cell : (k : ℕ) → k < 7 * free.cell → get_or space' k 0 ≡ get_or space k 0
-  old-cell = b.written.kept.front
+  pub cell-stands : (c : ℕ) (s : Skeleton) → c < b.next_cell → Stands b.cells c s → Stands b'.cells c s
+  cell-stands c s h p = stands-kept b'.cells b.cells b.next_cell a.below c s h p
 
-  pub cell-stands : (c : ℕ) (s : Skeleton) → c < free.cell → Stands space c s → Stands space' c s
-  cell-stands c s h p = stands-kept space' space free.cell old-cell c s h p
+  pub cell_row : (xs : List ℕ) (ss : Skeletons) → Row b.cells b.next_cell xs ss → Row b'.cells b.next_cell xs ss
+  cell_row xs ss p = row_kept b'.cells b.cells b.next_cell a.below b.next_cell xs ss (omega arith) p
 
-  pub cell_row : (xs : List ℕ) (ss : Skeletons) → Row space free.cell xs ss → Row space' free.cell xs ss
-  cell_row xs ss p = row_kept space' space free.cell old-cell free.cell xs ss (omega arith) p
+  pub made-lower : number < b'.next_cell
+  made-lower = omega (arith, a.numbered, a.next)
 
-  pub made-lower : r.cell < r.free.cell
-  made-lower = omega (arith, b.made, b.next)
+  pub cell-grown : Grown 0 1 b b'
+  cell-grown = record {
+    lent = a.lent;
+    long = ap length a.table;
+    more-rules = omega (arith, ap (λ (r : _). r.0) a.rule);
+    few-rules = omega (arith, ap (λ (r : _). r.0) a.rule);
+    more-cells = omega (arith, a.next);
+    few-cells = omega (arith, a.next);
+    behind = λ k h. ap (λ (t : List ℕ). get_or t k 0) a.table;
+    below = a.below;
+  }
 
-module _ {space space' : List ℕ} {free : Free} {r : Made} where
-  pub shut-stands : (a : ℕ) → CellAdded (closed_fields a) free space r space' → Stands space' r.cell (shut a)
-  shut-stands a b = (new-field b 0 (omega arith), new-field b 1 (omega arith))
+module _ {b b' : FormBuilder} {number : ℕ} where
+  pub under-stands : (c child : ℕ) (s : Skeleton) → child < b.next_cell → Stands b.cells child s → CellAdded (Over (record { 0 = c }) child) b number b'
+      → Stands b'.cells number (under c s)
+  under-stands c child s h p a = (child, new-cell a, omega (arith, a.numbered), cell-stands a child s h p)
 
-  pub under-stands : (c child : ℕ) (s : Skeleton) → child < free.cell → Stands space child s → CellAdded (over_fields c child) free space r space'
-      → Stands space' r.cell (under c s)
-  under-stands c child s h p b = (
-    new-field b 0 (omega arith),
-    new-field b 1 (omega arith),
-    omega (arith, new-field b 3 (omega arith), b.made),
-    rw (new-field b 3 (omega arith)) (cell-stands b child s h p),
+  pub branch-stands : (f : ℕ) (xs : List ℕ) (ss : Skeletons) → length xs ≡ size ss → length xs ≤ 4 → Row b.cells b.next_cell xs ss
+      → CellAdded (Terminal (record { 0 = f }) (length xs) (children_from xs)) b number b' → Stands b'.cells number (branch f ss)
+  branch-stands f xs ss count few p a = (
+    children_from xs,
+    new-cell a ∙ ap (λ (n : ℕ). Terminal (record { 0 = f }) n (children_from xs)) count,
+    omega (arith, length-append xs (drop (length xs) (0 ∷ 0 ∷ 0 ∷ 0 ∷ [])), length-drop {A = ℕ} (length xs) (0 ∷ 0 ∷ 0 ∷ 0 ∷ [])),
+    rw a.numbered (row_extended b'.cells b.next_cell xs _ ss (cell_row a xs ss p)),
   )
 
-  pub branch-stands : (f n c₀ c₁ c₂ c₃ : ℕ) (ss : Skeletons) → f < 256 → n ≡ size ss → Row space free.cell (c₀ ∷ c₁ ∷ c₂ ∷ c₃ ∷ []) ss
-      → CellAdded (terminal_fields f n c₀ c₁ c₂ c₃) free space r space' → Stands space' r.cell (branch f ss)
-  branch-stands f n c₀ c₁ c₂ c₃ ss small e p b = (
-    new-field b 0 (omega arith),
-    new-field b 1 (omega arith),
-    new-field b 2 (omega arith) ∙ e,
-    rw (new-field b 3 (omega arith), new-field b 4 (omega arith), new-field b 5 (omega arith), new-field b 6 (omega arith), b.made) (cell_row b _ ss p),
-    small,
-  )
+-- a rule added
 
--- a cell added, and a rule before it
-
-pub cell-grown : {fields table space space' : List ℕ} {free : Free} {r : Made} → CellAdded fields free space r space' → Grown 0 1 table space free table space' r.free
-cell-grown b = record {
-  long = refl;
-  all = b.written.kept.long;
-  more-rules = omega (arith, b.rule);
-  few-rules = omega (arith, b.rule);
-  more-cells = omega (arith, b.next);
-  few-cells = omega (arith, b.next);
-  behind = λ k h. refl;
-  below = old-cell b;
-}
-
-pub rule-grown : {rule : FormRule} {table table' space : List ℕ} {free free' : Free} → RuleAdded rule free table free' table' → Grown 1 0 table space free table' space free'
+pub rule-grown : {rule : FormRule} {b b' : FormBuilder} {number : ℕ} → RuleAdded rule b number b' → Grown 1 0 b b'
 rule-grown a = record {
+  lent = a.lent;
   long = a.written.kept.long;
-  all = refl;
   more-rules = omega (arith, a.next);
   few-rules = omega (arith, a.next);
   more-cells = omega (arith, a.cell);
   few-cells = omega (arith, a.cell);
   behind = λ k h. a.written.kept.behind k (omega (arith, a.next));
-  below = λ k h. refl;
+  below = λ c h. ap (λ (l : List Cell). cell_at l c) a.cells;
 }
 
 -- one step after another, and a step that adds less
-pub grown-then : {m n m' n' : ℕ} {table table' table'' space space' space'' : List ℕ} {free free' free'' : Free} → Grown m n table space free table' space' free'
-    → Grown m' n' table' space' free' table'' space'' free'' → Grown (m + m') (n + n') table space free table'' space'' free''
-grown-then a b = record {
-  long = b.long ∙ a.long;
-  all = b.all ∙ a.all;
-  more-rules = omega (arith, a.more-rules, b.more-rules);
-  few-rules = omega (arith, a.few-rules, b.few-rules);
-  more-cells = omega (arith, a.more-cells, b.more-cells);
-  few-cells = omega (arith, a.few-cells, b.few-cells);
-  behind = λ k h. b.behind k h ∙ a.behind k (omega (arith, b.more-rules));
-  below = λ k h. b.below k (omega (arith, a.more-cells)) ∙ a.below k h;
+pub grown-then : {m n m' n' : ℕ} {b b' b'' : FormBuilder} → Grown m n b b' → Grown m' n' b' b'' → Grown (m + m') (n + n') b b''
+grown-then a a' = record {
+  lent = a'.lent ∙ a.lent;
+  long = a'.long ∙ a.long;
+  more-rules = omega (arith, a.more-rules, a'.more-rules);
+  few-rules = omega (arith, a.few-rules, a'.few-rules);
+  more-cells = omega (arith, a.more-cells, a'.more-cells);
+  few-cells = omega (arith, a.few-cells, a'.few-cells);
+  behind = λ k h. a'.behind k h ∙ a.behind k (omega (arith, a'.more-rules));
+  below = λ c h. a'.below c (omega (arith, a.more-cells)) ∙ a.below c h;
 }
 
-pub grown-within : {m n m' n' : ℕ} {table table' space space' : List ℕ} {free free' : Free} → free'.rule.0 ≤ free.rule.0 + m' → free'.cell ≤ free.cell + n'
-    → Grown m n table space free table' space' free' → Grown m' n' table space free table' space' free'
+pub grown-within : {m n m' n' : ℕ} {b b' : FormBuilder} → b'.next_rule.0 ≤ b.next_rule.0 + m' → b'.next_cell ≤ b.next_cell + n' → Grown m n b b' → Grown m' n' b b'
 grown-within h l a = record {
+  lent = a.lent;
   long = a.long;
-  all = a.all;
   more-rules = a.more-rules;
   few-rules = h;
   more-cells = a.more-cells;
@@ -120,43 +106,37 @@ grown-within h l a = record {
   below = a.below;
 }
 
-pub grown_less : {m n m' n' : ℕ} {table table' space space' : List ℕ} {free free' : Free} → m ≤ m' → n ≤ n' → Grown m n table space free table' space' free'
-    → Grown m' n' table space free table' space' free'
+pub grown_less : {m n m' n' : ℕ} {b b' : FormBuilder} → m ≤ m' → n ≤ n' → Grown m n b b' → Grown m' n' b b'
 grown_less h l a = grown-within (omega (arith, a.few-rules)) (omega (arith, a.few-cells)) a
 
--- what cells represent after a step
-module _ {m n : ℕ} {table table' space space' : List ℕ} {free free' : Free} (g : Grown m n table space free table' space' free') where
-  pub grown-stands : (c : ℕ) (s : Skeleton) → c < free.cell → Stands space c s → Stands space' c s
-  grown-stands c s h p = stands-kept space' space free.cell g.below c s h p
-
-  pub grown-row : (limit : ℕ) → limit ≤ free.cell → (xs : List ℕ) (ss : Skeletons) → Row space limit xs ss → Row space' limit xs ss
-  grown-row limit h xs ss p = row_kept space' space free.cell g.below limit xs ss h p
-
-  pub grown_rows : (xs : List ℕ) (ss : Skeletons) → Row space free.cell xs ss → Row space' free'.cell xs ss
-  grown_rows xs ss p = row_raised space' free.cell free'.cell g.more-cells xs ss (grown-row free.cell (omega arith) xs ss p)
-
--- room that is left after a step
-pub room-left : {m n m' n' : ℕ} {table table' space space' : List ℕ} {free free' : Free} → Room (m + m') (n + n') table space free
-    → Grown m n table space free table' space' free' → Room m' n' table' space' free'
-room-left r g = record {
-  fits = omega (arith, r.fits, g.long, g.few-rules);
-  numbers = omega (arith, r.numbers, g.few-rules);
-  all = g.all ∙ r.all;
-  left = omega (arith, r.left, g.few-cells);
-}
-
-pub room_less : {m n m' n' : ℕ} {table space : List ℕ} {free : Free} → m' ≤ m → n' ≤ n → Room m n table space free → Room m' n' table space free
-room_less h l r = record { fits = omega (arith, r.fits); numbers = omega (arith, r.numbers); all = r.all; left = omega (arith, r.left) }
-
 -- nothing added
-pub grown-none : {m n : ℕ} {table space : List ℕ} {free : Free} → Grown m n table space free table space free
+pub grown-none : {m n : ℕ} {b : FormBuilder} → Grown m n b b
 grown-none = record {
+  lent = refl;
   long = refl;
-  all = refl;
   more-rules = omega arith;
   few-rules = omega arith;
   more-cells = omega arith;
   few-cells = omega arith;
   behind = λ k h. refl;
-  below = λ k h. refl;
+  below = λ c h. refl;
 }
+
+-- what cells represent after a step
+module _ {m n : ℕ} {b b' : FormBuilder} (g : Grown m n b b') where
+  pub grown-stands : (c : ℕ) (s : Skeleton) → c < b.next_cell → Stands b.cells c s → Stands b'.cells c s
+  grown-stands c s h p = stands-kept b'.cells b.cells b.next_cell g.below c s h p
+
+  pub grown_rows : (xs : List ℕ) (ss : Skeletons) → Row b.cells b.next_cell xs ss → Row b'.cells b'.next_cell xs ss
+  grown_rows xs ss p = row_raised b'.cells b.next_cell b'.next_cell g.more-cells xs ss (row_kept b'.cells b.cells b.next_cell g.below b.next_cell xs ss (omega arith) p)
+
+-- room that is left after a step
+pub room-left : {m n m' n' : ℕ} {b b' : FormBuilder} → Room (m + m') (n + n') b → Grown m n b b' → Room m' n' b'
+room-left r g = record {
+  fits = omega (arith, r.fits, g.long, g.few-rules);
+  numbers = omega (arith, r.numbers, g.few-rules);
+  left = omega (arith, r.left, g.few-cells);
+}
+
+pub room_less : {m n m' n' : ℕ} {b : FormBuilder} → m' ≤ m → n' ≤ n → Room m n b → Room m' n' b
+room_less h l r = record { fits = omega (arith, r.fits); numbers = omega (arith, r.numbers); left = omega (arith, r.left) }

@@ -8,7 +8,7 @@ use Rattle.terms.specs.Sheet.{alphabet_of, automaton_of, sheet_tree, sheet_mask}
 use Rattle.terms.specs.Check.{sheet_refusal}
 use Rattle.terms.specs.FormBytes.{rule_count}
 use Rattle.terms.specs.Count.{size_of}
-use Rattle.terms.specs.Answer.{Answer, refused, answered, answer_of_mask, answer_of_length}
+use Rattle.terms.specs.Answer.{Answer, refused, answered, answer_of}
 use Rattle.terms.specs.Calls.{form_asked, counts_per_rule, form_mask, most_walked}
 use Rattle.terms.specs.Demand.{FormOfSheet, Demand3}
 use Rattle.terms.proofs.Demand.{form_meets}
@@ -29,7 +29,7 @@ module _ (sheet : List ℕ) (answers : Answers) (form : List ℕ) (lent : Slices
   abbrev tree : Tree
   tree = sheet_tree sheet
 
-  module _ (n : ℕ) (made : answer_of_length answers.made ≡ answered n) (formed : FormOfSheet sheet (take n form')) (ran : Ran alphabet automaton (take n form') answers lent left) where
+  module _ (n : ℕ) (made : answer_of answers.made ≡ answered n) (formed : FormOfSheet sheet (take n form')) (ran : Ran alphabet automaton (take n form') answers lent left) where
     abbrev written : List ℕ
     written = take n form'
 
@@ -41,15 +41,15 @@ module _ (sheet : List ℕ) (answers : Answers) (form : List ℕ) (lent : Slices
     mask_is = rw formed.tree refl
 
     module _ (counts : counts_per_rule * rule_count written ≤ length lent.counts) (long : size_of tree ≤ length lent.tree) where
-      nodes-written : answer_of_length answers.unfolded ≡ answered (size_of tree)
+      nodes-written : answer_of answers.unfolded ≡ answered (size_of tree)
       nodes-written = unfolds ran.unfolded tree formed.tree (demand.unfolded _ _ counts long)
 
       tree-written : take (size_of tree) left.tree ≡ preorder tree
       tree-written = tree-first ran.unfolded tree formed.tree (demand.unfolded _ _ counts long)
 
-      same-mask : size_of tree ≤ most_walked → size_of tree ≤ length lent.masks → answer_of_mask answers.walked ≡ answered (sheet_mask sheet)
+      same-mask : size_of tree ≤ most_walked → size_of tree ≤ length lent.masks → answer_of answers.walked ≡ answered (sheet_mask sheet)
       same-mask small masks =
-          let w = subst (λ (u : Answer ℕ). Walked alphabet automaton u left.tree (answer_of_mask answers.walked) left.masks lent.masks) nodes-written ran.walked in
+          let w = subst (λ (u : Answer ℕ). Walked alphabet automaton u left.tree (answer_of answers.walked) left.masks lent.masks) nodes-written ran.walked in
           rw (tree-written, demand.walked small _ masks, demand.same, mask_is) at w.0
 
     certificate : Certificate sheet answers lent form' left
@@ -63,9 +63,9 @@ module _ (sheet : List ℕ) (answers : Answers) (form : List ℕ) (lent : Slices
       walked = same-mask;
     }
 
-  by_answer : (m : Answer ℕ) → answer_of_length answers.made ≡ m → Makes sheet m form' form → Follows sheet m form' answers lent left → Certificate sheet answers lent form' left
+  by_answer : (m : Answer ℕ) → answer_of answers.made ≡ m → Makes sheet m form' form → Follows sheet m form' answers lent left → Certificate sheet answers lent form' left
   by_answer (refused n) e k f = absurd (none-refused k refl ((just_enough sheet passes).makes (length form) room))
   by_answer (answered n) e k f = certificate n e (wrote k refl).formed f
 
   pub calls_certify : CallsMade sheet answers form lent form' left → Certificate sheet answers lent form' left
-  calls_certify c = by_answer (answer_of_length answers.made) refl c.makes c.followed
+  calls_certify c = by_answer (answer_of answers.made) refl c.makes c.followed

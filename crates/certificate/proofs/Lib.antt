@@ -1,4 +1,3 @@
-pub mod Handed
 pub mod Made
 pub mod Sheet
 pub mod Certified

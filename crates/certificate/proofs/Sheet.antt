@@ -1,34 +1,29 @@
--- The parts of a sheet whose form was made: where its alphabet and its automaton lie.
-use mathlib.Core.Path.{◌≡◌, sym}
+-- The contents of a sheet whose form was made join.
+use mathlib.Core.Path.{◌≡◌, ap}
+use mathlib.Core.Bool.{true}
 use mathlib.Core.List.{List}
-use Prim.Native.Nat.{ℕ, ◌-◌, ◌≤◌}
-use lib.ListN.{length, take, drop}
-use Rattle.terms.specs.Sheet.{body_offset, alphabet_of, automaton_of}
-use Rattle.terms.specs.Check.{sheet_refusal}
+use Prim.Native.Nat.{ℕ, ◌≤◌}
+use lib.ListN.{length}
+use Rattle.terms.specs.Check.{joins, sheet_refusal}
+use Rattle.std.specs.Prelude.{Result, Ok}
+use Rattle.terms.specs.declared.refusals.Refusal.{Refusal}
+use Rattle.terms.specs.Answer.{answer, answer_of}
 use Rattle.terms.specs.Calls.{making_refusal}
+use Rattle.making.specs.Making.{form_of, form_left, FormMade}
+use Rattle.making.proofs.Formed.{makes, wrote}
+use Rattle.terms.proofs.Test.{is_true}
 use Rattle.terms.proofs.Refusal.{none_before}
-use Rattle.terms.proofs.Sheet.Bodies.{joined}
 use Rattle.terms.proofs.Sheet.Passed.{sheet_passed}
 
--- what is known of a sheet of which a form was written
-pub record Parts (sheet : List ℕ) : Type 0 where
-  pub long : 12 ≤ length sheet
-  pub first : 12 ≤ body_offset sheet 1
-  pub second : body_offset sheet 1 ≤ body_offset sheet 2
-  pub last : body_offset sheet 2 ≤ length sheet
-  pub alphabet : take (body_offset sheet 1 - 12) (drop 12 sheet) ≡ alphabet_of sheet
-  pub automaton : take (length sheet - body_offset sheet 2) (drop (body_offset sheet 2) sheet) ≡ automaton_of sheet
-
-pub parts_of : (sheet : List ℕ) (room : ℕ) → making_refusal sheet room ≡ 0 → Parts sheet
+contents_of : (sheet : List ℕ) (room : ℕ) → making_refusal sheet room ≡ 0 → (12 ≤ length sheet) × (joins sheet ≡ true)
 unfolding making_refusal
-parts_of sheet room passes =
+contents_of sheet room passes =
     let passed = sheet_passed sheet (none_before (sheet_refusal sheet) _ passes).0 in
-    let bodies = joined sheet passed.joined in
-    record {
-      long = passed.long;
-      first = bodies.after_contents;
-      second = bodies.after-alphabet;
-      last = bodies.after-rules;
-      alphabet = sym bodies.alphabet;
-      automaton = sym bodies.automaton;
-    }
+    (passed.long, is_true (joins sheet) passed.joined)
+
+-- of a sheet whose form making, with its promises, answered a length
+pub contents_join : {sheet exit : List ℕ} {made : Result ℕ Refusal} {n : ℕ} (entry : List ℕ)
+    → answer_of made ≡ answer (making_refusal sheet (length entry)) (length (form_of sheet)) → exit ≡ form_left sheet entry
+    → (making_refusal sheet (length entry) ≡ 0 → FormMade sheet (length entry)) → made ≡ Ok n → (12 ≤ length sheet) × (joins sheet ≡ true)
+contents_join {sheet = sheet} entry answered left holds is =
+    contents_of sheet (length entry) (wrote (makes sheet entry (answered, (left, holds))) (ap answer_of is)).passes

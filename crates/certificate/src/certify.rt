@@ -1,41 +1,38 @@
 // Form making, evaluation, unfolding and the plain walk in turn, over one sheet.
 ghost use Rattle.std.specs.Prelude.{length};
-ghost use Rattle.terms.specs.Answer.{answer_of_mask, answer_of_length};
+ghost use Rattle.terms.specs.Answer.{answer_of};
 ghost use Rattle.terms.specs.Private.Within.{Within};
 ghost use Rattle.certificate.specs.Certify.{slices, Walked, Ran, CallsMade, Certified};
 
-use checks::bytes::word;
-use checks::limits::CONTENTS;
 use evaluation::evaluate::evaluate;
 use making::make_form;
 use plain_walk::walk::walk;
-use terms::answers::{LengthAnswer, MaskAnswer};
+use sheets::sheet::bodies_of;
+use terms::refusals::Refusal;
 use unfolding::unfold::unfold;
 
 // What the four calls answer.
-#[derive(Clone, Copy)]
+#[derive(Clone, Copy, Debug, PartialEq, Eq)]
 pub struct Answers {
-    pub made: LengthAnswer,
-    pub evaluated: MaskAnswer,
-    pub unfolded: LengthAnswer,
-    pub walked: MaskAnswer,
+    pub made: Result<usize, Refusal>,
+    pub evaluated: Result<u8, Refusal>,
+    pub unfolded: Result<usize, Refusal>,
+    pub walked: Result<u8, Refusal>,
 }
 
 // The walk over the nodes that unfolding wrote. Where it wrote none there is nothing to walk over, and its refusal is handed on.
 fn walk_unfolded(
     alphabet: &[u8],
     automaton: &[u8],
-    unfolded: LengthAnswer,
+    unfolded: Result<usize, Refusal>,
     tree: &[u8],
     masks: &mut [u8],
-) -> MaskAnswer
-    requires { Within (answer_of_length unfolded) (length tree.now) }
-    ensures { Walked alphabet.now automaton.now (answer_of_length unfolded) tree.now (answer_of_mask result) masks.new masks.old }
+) -> Result<u8, Refusal>
+    requires { Within (answer_of unfolded) (length tree.now) }
+    ensures { Walked alphabet.now automaton.now (answer_of unfolded) tree.now (answer_of result) masks.new masks.old }
 {
-    match unfolded {
-        LengthAnswer::Refused(n) => MaskAnswer::Refused(n),
-        LengthAnswer::Written(n) => walk(alphabet, automaton, &tree[..n], masks),
-    }
+    let nodes = unfolded?;
+    walk(alphabet, automaton, &tree[..nodes], masks)
 }
 
 // The calls on a form that was made: evaluation, unfolding, and the walk over what was unfolded.
@@ -50,7 +47,7 @@ fn run(
 ) -> Answers
     ensures { Ran alphabet.now automaton.now form.now result (slices relations.old counts.old tree.old masks.old) (slices relations.new counts.new tree.new masks.new) }
 {
-    let made = LengthAnswer::Written(form.len());
+    let made = Ok(form.len());
     let evaluated = evaluate(alphabet, automaton, form, relations);
     let unfolded = unfold(alphabet, form, counts, tree);
     let walked = walk_unfolded(alphabet, automaton, unfolded, tree, masks);
@@ -75,19 +72,18 @@ pub fn certify(
     ensures demand { Certified sheet.now result form.old (slices relations.old counts.old tree.old masks.old) form.new (slices relations.new counts.new tree.new masks.new) }
 {
     match make_form(sheet, form) {
-        LengthAnswer::Refused(n) => Answers {
-            made: LengthAnswer::Refused(n),
-            evaluated: MaskAnswer::Refused(n),
-            unfolded: LengthAnswer::Refused(n),
-            walked: MaskAnswer::Refused(n),
+        Err(refusal) => Answers {
+            made: Err(refusal),
+            evaluated: Err(refusal),
+            unfolded: Err(refusal),
+            walked: Err(refusal),
         },
-        LengthAnswer::Written(n) => {
-            let rules = word(sheet, 4);
-            let automaton = word(sheet, 8);
+        Ok(length) => {
+            let bodies = bodies_of(sheet);
             run(
-                &sheet[CONTENTS..rules],
-                &sheet[automaton..],
-                &form[..n],
+                bodies.alphabet,
+                bodies.automaton,
+                &form[..length],
                 relations,
                 counts,
                 tree,

@@ -7,7 +7,7 @@ pub fn word(bytes: &[u8], at: usize) -> usize
     requires { at + 1 < length bytes.now }
     ensures { (result ≡ word bytes.now at) × (result < 65536) }
 {
-    bytes[at] as usize + 256 * (bytes[at + 1] as usize)
+    usize::from(u16::from_le_bytes([bytes[at], bytes[at + 1]]))
 }
 
 // The bytes of `from` into `to`, at a place.
@@ -15,9 +15,5 @@ pub fn copy_at(from: &[u8], to: &mut [u8], at: usize)
     requires { at + length from.now ≤ length to.old }
     ensures { to.new ≡ take at to.old ++ (from.now ++ drop (at + length from.now) to.old) }
 {
-    let mut i = 0;
-    while i < from.len() {
-        to[at + i] = from[i];
-        i += 1;
-    }
+    to[at..at + from.len()].copy_from_slice(from);
 }

@@ -1,45 +1,39 @@
 -- The rules one after another: what is written is the body of the first rules, cleaned.
 use mathlib.Core.Path.{◌≡◌, refl, sym, ◌∙◌, ap}
-use mathlib.Core.Bool.{Bool}
-use mathlib.Core.List.{List, ◌++◌}
+use mathlib.Core.List.{List, [], ◌++◌}
 use Prim.Native.Nat.{ℕ, suc, ◌+◌, ◌*◌, ◌-◌, ◌≤◌, ◌<◌}
 use native.Mathlib.Omega.{arith}
 use lib.ListN.{length, take, drop, set, length-append, length-set}
 use lib.Seq.{get_or-set_same, get_or-set_other, length-take-le, take-append-add}
-use Rattle.terms.specs.Grammar.{Rule}
+use Rattle.terms.specs.Grammar.{Rule, node_count}
 use Rattle.terms.specs.Sheet.{rules_body, written_rules}
 use Rattle.terms.specs.Check.{most_rules}
-use Rattle.grammars.specs.Cursor.{span_at, rule_in}
-use Rattle.grammars.specs.declared.cursor.Span.{Span}
-use Rattle.grammars.proofs.Body.{nodes-long, Standing, standing, inside-body, Passed, none_passed, rule_passed}
+use Rattle.grammars.proofs.Turns.{Left, none-read, Turn, read-all}
 use Rattle.cleaning_terms.specs.Cleaning.{sifted_rules, cleaned}
 use Rattle.cleaning_terms.proofs.Body.{body_upto, body-next}
 use Rattle.rule_parameters.specs.Numbers.{rule_flags}
+use Rattle.cleaning.specs.declared.notes.Notes.{Notes}
 use Rattle.cleaning.specs.Sifting.{Noted}
 use Rattle.cleaning.proofs.Parts.{nothing-behind}
 use Rattle.cleaning.specs.Clean.{longest_body, GrammarBody, RuleReady, RuleCleaned, CleanedNoting}
 
-module _ {alphabet body : List ℕ} {count room : ℕ} (g : GrammarBody alphabet body count) (enough : longest_body ≤ room) where
+module _ {alphabet body : List ℕ} {room : ℕ} (g : GrammarBody alphabet body) (enough : longest_body ≤ room) where
   abbrev rules : List Rule
   rules = (rules_body body).rules
 
-  -- the first i rules are cleaned, and the next one's bytes start at a place
-  pub record Cleaning (at to i : ℕ) (ranks : List ℕ) (present alone : List Bool) (out : List ℕ) : Type 0 where
-    pub nodes : ℕ
-    pub passed : Passed body at i nodes
-    pub rest : drop i rules ≡ (rules_body (drop at body)).rules
-    pub noted : Noted alphabet rules i ranks present alone
+  -- the first i rules are cleaned, and the others are left
+  pub record Cleaning (left : List ℕ) (to i : ℕ) (notes : Notes) (out : List ℕ) : Type 0 where
+    pub read : Left body i left
+    pub noted : Noted alphabet rules i notes.ranks notes.present notes.alone
     pub long : length out ≡ room
-    pub short : to ≤ 2 * i + nodes
+    pub short : to + node_count (rules_body left).rules ≤ 2 * i + node_count rules
     pub written : take to out ≡ body_upto alphabet rules i
 
-  pub none-cleaned : {ranks : List ℕ} {present alone : List Bool} {out : List ℕ} → length ranks ≡ most_rules → length present ≡ rule_flags → length alone ≡ most_rules
-      → length out ≡ room → Cleaning 0 0 0 ranks present alone out
+  pub none-cleaned : {notes : Notes} {out : List ℕ} → length notes.ranks ≡ most_rules → length notes.present ≡ rule_flags → length notes.alone ≡ most_rules
+      → length out ≡ room → Cleaning body 0 0 notes out
   unfolding sifted_rules written_rules
   none-cleaned ranked flagged told long = record {
-    nodes = 0;
-    passed = none_passed body;
-    rest = refl;
+    read = none-read body;
     noted = record {
       ranked = ranked;
       flagged = flagged;
@@ -53,80 +47,61 @@ module _ {alphabet body : List ℕ} {count room : ℕ} (g : GrammarBody alphabet
     written = refl;
   }
 
-  -- no more is written than the longest body has
-  pub short-body : {at to i : ℕ} {ranks : List ℕ} {present alone : List Bool} {out : List ℕ} → Cleaning at to i ranks present alone out → to ≤ longest_body
-  short-body s = omega (arith, s.short, s.passed.nodes, s.passed.rules, g.few, g.proper.few)
+  module _ {left : List ℕ} {to i : ℕ} {notes : Notes} {out : List ℕ} (s : Cleaning left to i notes out) where
+    -- no more is written than the longest body has
+    pub short-body : to ≤ longest_body
+    short-body = omega (arith, s.short, s.read.count, g.few, g.proper.few)
 
-  -- one rule, which stands in a span
-  module _ {at to i : ℕ} {ranks : List ℕ} {present alone : List Bool} {out : List ℕ} (s : Cleaning at to i ranks present alone out) (more : i < count) where
-    inside : i < length rules
-    inside = omega (arith, g.count)
+    -- there are few rules
+    pub few-left : i + length (rules_body left).rules ≤ most_rules
+    few-left = omega (arith, s.read.count, g.proper.few)
 
-    pub in_body : at < length body
-    in_body = inside-body body at i s.rest inside
-
-    pub in_span : {span : Span} → span ≡ span_at body at → Standing body at i span
-    in_span e = standing body at i s.rest inside e
-
-    pub number-few : (i < most_rules) × (i < length ranks)
-    number-few = omega (arith, inside, g.proper.few, s.noted.ranked)
-
-    module _ {span : Span} (is : span ≡ span_at body at) where
-      there : Standing body at i span
-      there = in_span is
-
-      abbrev nodes-there : List ℕ
-      nodes-there = (rule_in body span).nodes
-
-      later : Passed body span.end (i + 1) (s.nodes + (span.end - span.start))
-      later = rule_passed body at i s.nodes s.passed is there.whole
-
-      long-nodes : length nodes-there ≡ span.end - span.start
-      long-nodes = rw is (nodes-long body at (rw is at there.whole))
-
-      few-nodes : s.nodes + length nodes-there ≤ 128
-      few-nodes = omega (arith, long-nodes, later.nodes, g.few)
+    -- one rule, which is the first of those that are left
+    module _ {rule : Rule} {later : List ℕ} (t : Turn body i left rule later) where
+      pub number-few : (i < most_rules) × (i < length notes.ranks)
+      number-few = omega (arith, t.inside, g.proper.few, s.noted.ranked)
 
       pub room-there : to ≤ length out
-      room-there = omega (arith, s.short, s.long, few-nodes, number-few, enough)
+      room-there = omega (arith, s.short, s.long, g.few, number-few, enough)
 
-      abbrev ranks' : List ℕ
-      ranks' = set ranks i span.rank
+      -- its rank is noted
+      abbrev notes₁ : Notes
+      notes₁ = record { ranks = set notes.ranks i rule.rank; present = notes.present; alone = notes.alone }
 
-      still_noted : Noted alphabet rules i ranks' present alone
+      still_noted : Noted alphabet rules i notes₁.ranks notes₁.present notes₁.alone
       still_noted =
           let n = s.noted in
           record {
-            ranked = length-set ranks i span.rank ∙ n.ranked;
+            ranked = length-set notes.ranks i rule.rank ∙ n.ranked;
             flagged = n.flagged;
             told = n.told;
-            rank = λ r h. get_or-set_other ranks i r span.rank 0 (λ q. omega arith) ∙ n.rank r h;
+            rank = λ r h. get_or-set_other notes.ranks i r rule.rank 0 (λ q. omega arith) ∙ n.rank r h;
             stand = n.stand;
             lone = n.lone;
           }
 
       -- the part of the slice behind what is written has room for the rule
-      part_room : 2 + length nodes-there ≤ length out - to
-      part_room = omega (arith, s.short, s.long, few-nodes, number-few, enough)
+      part_room : 2 + length rule.nodes ≤ length out - to
+      part_room = omega (arith, s.short, s.long, t.parted, g.few, number-few, enough)
 
-      ready : {n : ℕ} → n ≡ length out - to - 2 → RuleReady alphabet ranks' present alone i nodes-there n
+      ready : {n : ℕ} → n ≡ length out - to - 2 → RuleReady alphabet notes₁ i rule.nodes n
       ready e = record {
         rules = rules;
         proper = g.proper;
-        inside = inside;
-        rule_nodes = ap (λ (r : Rule). r.nodes) (sym there.rule);
-        few = omega (arith, few-nodes);
+        inside = t.inside;
+        rule_nodes = ap (λ (r : Rule). r.nodes) (sym t.here);
+        few = omega (arith, t.parted, s.read.nodes, g.few);
         noted = still_noted;
-        rank = get_or-set_same ranks i span.rank 0 number-few.1 ∙ ap (λ (r : Rule). r.rank) (sym there.rule);
+        rank = get_or-set_same notes.ranks i rule.rank 0 number-few.1 ∙ ap (λ (r : Rule). r.rank) (sym t.here);
         fits = omega (arith, part_room);
       }
 
-      pub part_ready : (part : List ℕ) → length part ≡ length out - to → (2 ≤ length part) × RuleReady alphabet ranks' present alone i nodes-there (length part - 2)
+      pub part_ready : (part : List ℕ) → length part ≡ length out - to → (2 ≤ length part) × RuleReady alphabet notes₁ i rule.nodes (length part - 2)
       part_ready part size = (omega (arith, part_room), ready (ap (λ n. n - 2) size))
 
       -- the next rule
-      module _ {part part' : List ℕ} {end : ℕ} {present' alone' : List Bool} (size : length part ≡ length out - to)
-          (d : RuleCleaned alphabet ranks' present alone i nodes-there part end present' alone' part') where
+      module _ {part part' : List ℕ} {end : ℕ} {notes' : Notes} (size : length part ≡ length out - to)
+          (d : RuleCleaned alphabet notes₁ i rule.nodes part end notes' part') where
         to_long : length (take to out) ≡ to
         to_long = length-take-le to out room-there
 
@@ -143,27 +118,24 @@ module _ {alphabet body : List ℕ} {count room : ℕ} (g : GrammarBody alphabet
             let e : to + end ≡ length (take to out) + end = omega (arith, to_long) in
             rw (parted, e) (take-append-add (take to out) part' end ∙ rw (s.written, d.written (ready refl)) (sym (body-next alphabet rules i)))
 
-        pub rule-cleaned : Cleaning span.end (to + end) (i + 1) ranks' present' alone' out₁
+        pub rule-cleaned : Cleaning later (to + end) (i + 1) notes' out₁
         unfolding ready
         rule-cleaned =
             let z : i + 1 ≡ suc i = omega arith in
             record {
-              nodes = s.nodes + (span.end - span.start);
-              passed = later;
-              rest = rw z there.next;
+              read = t.next;
               noted = rw z (d.noted (ready refl));
               long = omega (arith, ap length parted, length-append (take to out) part', to_long, d.long, size, room-there, s.long);
-              short = omega (arith, d.short, s.short, long-nodes);
+              short = omega (arith, d.short, s.short, t.parted);
               written = rw z bytes;
             }
 
-  -- all rules
-  pub all-cleaned : {at to i : ℕ} {ranks : List ℕ} {present alone : List Bool} {out : List ℕ} → Cleaning at to i ranks present alone out → count ≤ i → CleanedNoting alphabet body to ranks present out
-  unfolding cleaned
-  all-cleaned {at} {to} {i} {ranks} {present} {alone} {out} s most =
-      let z : i ≡ length rules = omega (arith, g.count, s.passed.rules) in
-      record {
-        cleaned = record { within = omega (arith, short-body s, s.long, enough); written = s.written ∙ ap (body_upto alphabet rules) z };
-        alone = alone;
-        noted = rw z at s.noted;
-      }
+    -- all rules
+    pub all-cleaned : (rules_body left).rules ≡ [] → CleanedNoting alphabet body to notes out
+    unfolding cleaned
+    all-cleaned none =
+        let z = read-all s.read none in
+        record {
+          cleaned = record { within = omega (arith, short-body, s.long, enough); written = rw z s.written };
+          noted = rw z s.noted;
+        }

@@ -1,5 +1,4 @@
 pub mod Parts
-pub mod Flagging
 pub mod Sifting
 pub mod OneRule
 pub mod Cleaning

@@ -20,9 +20,10 @@ use Rattle.nodes.proofs.Node.{has-rank, rank-lower}
 use Rattle.cleaning_terms.specs.Cleaning.{lone, stands, present, keeps, stays, sift, sifted_rules, rule_sifted}
 use Rattle.cleaning_terms.proofs.Sifted.{sifted_at, sifted_rank}
 use Rattle.cleaning_terms.proofs.Turn.{child_flags, length-children, sift-turn, flags_next, flags_few}
+use Rattle.cleaning.specs.declared.notes.Notes.{Notes}
 use Rattle.cleaning.specs.Sifting.{CanKeep, child_kept, node_stays, ChildrenFlagged, Side, kept_nodes}
 
-module _ {alphabet ranks : List ℕ} {flags₀ alone : List Bool} {nodes : List ℕ} {room : ℕ} (g : Side alphabet ranks flags₀ alone nodes room) where
+module _ {alphabet : List ℕ} {notes : Notes} {nodes : List ℕ} {room : ℕ} (g : Side alphabet notes nodes room) where
   -- the lower rules, sifted
   abbrev lower : List Rule
   lower = sifted_rules alphabet g.rules g.number
@@ -73,9 +74,9 @@ module _ {alphabet ranks : List ℕ} {flags₀ alone : List Bool} {nodes : List 
     pub node-ranked : HasRank (length alphabet) (name m)
     node-ranked = has-rank alphabet g.number (rule_rank g.rules g.number) (name m) (is_true _ named) (omega (arith, g.inside, g.proper.few))
 
-    node-rank : name_rank alphabet (ruled_by ranks) (name m) ≡ k
+    node-rank : name_rank alphabet (ruled_by notes.ranks) (name m) ≡ k
     unfolding rank_in
-    node-rank = rank-lower alphabet ranks g.rules g.number _ g.noted.rank (name m) named
+    node-rank = rank-lower alphabet notes.ranks g.rules g.number _ g.noted.rank (name m) named
 
     -- a rule that is called is below, and its sifted rule is noted
     module _ {r : ℕ} (l : r < g.number) where
@@ -90,7 +91,7 @@ module _ {alphabet ranks : List ℕ} {flags₀ alone : List Bool} {nodes : List 
     same_rank = sifted_rank alphabet g.rules g.number (name m) named
 
     -- the flags of its children can be read
-    pub can_keep : (j : ℕ) → j < k → CanKeep (name m) j
+    can_keep : (j : ℕ) → j < k → CanKeep (name m) j
     unfolding rank_in
     can_keep j h = go (name m) named h
       where
@@ -100,7 +101,7 @@ module _ {alphabet ranks : List ℕ} {flags₀ alone : List Bool} {nodes : List 
         go (parameter i) a h = tt
         go nothing a h = tt
 
-    pub can_stay : CanKeep (name m) 0
+    can_stay : CanKeep (name m) 0
     can_stay = go (name m) named
       where
         go : (x : Name) → T (allowed alphabet g.number (rule_rank g.rules g.number) x) → CanKeep x 0
@@ -111,13 +112,13 @@ module _ {alphabet ranks : List ℕ} {flags₀ alone : List Bool} {nodes : List 
 
     -- what is noted says which children are kept, and whether the node stays
 
-    child_flag : (b : Bool) (j : ℕ) → j < k → get_or (child_flags alphabet lower b m) j false ≡ child_kept flags₀ b (name m) j
+    child_flag : (b : Bool) (j : ℕ) → j < k → get_or (child_flags alphabet lower b m) j false ≡ child_kept notes.present b (name m) j
     unfolding rank_in present
     child_flag false j h = get_or-replicate (rank_in alphabet lower m) j false false (omega (arith, same_rank))
     child_flag true j h = go (name m) named h
       where
         go : (x : Name) → T (allowed alphabet g.number (rule_rank g.rules g.number) x) → j < name_rank alphabet g.rules x
-            → get_or (keeps alphabet lower x) j false ≡ child_kept flags₀ true x j
+            → get_or (keeps alphabet lower x) j false ≡ child_kept notes.present true x j
         go (terminal f) a h = get_or-replicate (terminal_rank alphabet f) j true false h
         go (nonterminal r) a h =
             let l = ltb→lt r g.number a in
@@ -126,11 +127,11 @@ module _ {alphabet ranks : List ℕ} {flags₀ alone : List Bool} {nodes : List 
         go (parameter i) a h = absurd (omega arith)
         go nothing a h = absurd (omega arith)
 
-    node_stays_lem : (b : Bool) → node_stays alone b (name m) ≡ (b && stays lower (name m))
+    node_stays_lem : (b : Bool) → node_stays notes.alone b (name m) ≡ (b && stays lower (name m))
     node_stays_lem false = refl
     node_stays_lem true = go (name m) named
       where
-        go : (x : Name) → T (allowed alphabet g.number (rule_rank g.rules g.number) x) → node_stays alone true x ≡ stays lower x
+        go : (x : Name) → T (allowed alphabet g.number (rule_rank g.rules g.number) x) → node_stays notes.alone true x ≡ stays lower x
         go (terminal f) a = refl
         go (nonterminal r) a =
             let l = ltb→lt r g.number a in
@@ -140,7 +141,7 @@ module _ {alphabet ranks : List ℕ} {flags₀ alone : List Bool} {nodes : List 
 
     -- the flags
 
-    pub some_flag : low < most_nodes
+    some_flag : low < most_nodes
     unfolding wholes
     some_flag =
         let t = taken k (most_nodes - low) (wholes rank_of behind) (rw split at s.whole) in
@@ -172,12 +173,12 @@ module _ {alphabet ranks : List ℕ} {flags₀ alone : List Bool} {nodes : List 
         flags_next rank_of flag (child_flags alphabet lower flag m) later m behind w (length-children alphabet lower flag m ∙ same_rank)
 
     -- there is room for the flags of the children
-    pub rank-fits : k ≤ low
+    rank-fits : k ≤ low
     rank-fits =
         let f = flags_few rank_of behind (length left) left-whole in
         omega (arith, left-length, length-drop (suc at) nodes, g.few, some_flag)
 
-    module _ {low' : ℕ} (is : low' ≡ low + 1 - k) {flags' : List Bool} (d : ChildrenFlagged low' flags₀ flag (name m) k flags flags') where
+    module _ {low' : ℕ} (is : low' ≡ low + 1 - k) {flags' : List Bool} (d : ChildrenFlagged low' notes.present flag (name m) k flags flags') where
       flags_left : drop low' flags' ≡ left
       flags_left =
           let size : length (drop low' flags') ≡ length left = omega (arith, length-drop low' flags', d.long, s.all, left-length, rank-fits, some_flag) in
@@ -209,32 +210,41 @@ module _ {alphabet ranks : List ℕ} {flags₀ alone : List Bool} {nodes : List 
       }
 
       -- the node is written, or not
-      node_kept : node_stays alone flag (name m) ≡ true → Sifting (suc at) low' (suc count) flags' (set kept count m)
+      node_kept : node_stays notes.alone flag (name m) ≡ true → Sifting (suc at) low' (suc count) flags' (set kept count m)
       node_kept b =
           turn (omega (arith, s.few)) (length-set kept count m ∙ s.long)
           (take-suc-set kept count m (omega (arith, s.few, s.long, g.fits)) ∙ rw (sym (node_stays_lem flag) ∙ b))
 
-      node_dropped : node_stays alone flag (name m) ≡ false → Sifting (suc at) low' count flags' kept
+      node_dropped : node_stays notes.alone flag (name m) ≡ false → Sifting (suc at) low' count flags' kept
       node_dropped b = turn (omega (arith, s.few)) s.long (rw (sym (node_stays_lem flag) ∙ b) (sym (append-nil (take count kept))))
 
     -- the same by what the code calls its name and its rank
-    module _ {x : Name} {n : ℕ} (called : x ≡ name m) (ranked : n ≡ name_rank alphabet (ruled_by ranks) x) where
-      pub rank-read : n ≡ k
-      rank-read = ranked ∙ ap (name_rank alphabet (ruled_by ranks)) called ∙ node-rank
+    module _ {x : Name} {n : ℕ} (called : x ≡ name m) (ranked : n ≡ name_rank alphabet (ruled_by notes.ranks) x) where
+      rank-read : n ≡ k
+      rank-read = ranked ∙ ap (name_rank alphabet (ruled_by notes.ranks)) called ∙ node-rank
 
-      module _ {low' : ℕ} (is : low' ≡ low + 1 - n) {flags' : List Bool} (d : ChildrenFlagged low' flags₀ flag x n flags flags') where
+      pub room-there : (low < most_nodes) × (n ≤ low)
+      room-there = omega (arith, some_flag, rank-fits, rank-read)
+
+      pub can_keep_as : (j : ℕ) → j < n → CanKeep x j
+      can_keep_as j h = rw called (can_keep j (omega (arith, rank-read)))
+
+      pub can_stay_as : CanKeep x 0
+      can_stay_as = rw called can_stay
+
+      module _ {low' : ℕ} (is : low' ≡ low + 1 - n) {flags' : List Bool} (d : ChildrenFlagged low' notes.present flag x n flags flags') where
         is-there : low' ≡ low + 1 - k
         is-there = is ∙ ap (λ (j : ℕ). low + 1 - j) rank-read
 
-        flagged : ChildrenFlagged low' flags₀ flag (name m) k flags flags'
+        flagged : ChildrenFlagged low' notes.present flag (name m) k flags flags'
         flagged = rw (called, rank-read) at d
 
-        pub kept_as : node_stays alone flag x ≡ true → Sifting (at + 1) low' (count + 1) flags' (set kept count m)
+        pub kept_as : node_stays notes.alone flag x ≡ true → Sifting (at + 1) low' (count + 1) flags' (set kept count m)
         kept_as b =
             let e : count + 1 ≡ suc count = omega arith in
             rw (add-one, e) (node_kept is-there flagged (rw called at b))
 
-        pub dropped_as : node_stays alone flag x ≡ false → Sifting (at + 1) low' count flags' kept
+        pub dropped_as : node_stays notes.alone flag x ≡ false → Sifting (at + 1) low' count flags' kept
         dropped_as b = rw add-one (node_dropped is-there flagged (rw called at b))
 
   -- all nodes

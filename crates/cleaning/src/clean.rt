@@ -1,13 +1,12 @@
 // The rules of a grammar, cleaned from the first to the last.
-ghost use Rattle.std.specs.Prelude.{◌≡◌, ◌-◌, ◌≤◌, length};
-ghost use Rattle.terms.specs.Check.{most_rules};
-ghost use Rattle.rule_parameters.specs.Numbers.{rule_flags};
+ghost use Rattle.std.specs.Prelude.{◌-◌, ◌≤◌, length};
 ghost use Rattle.cleaning.specs.Clean.{longest_body, GrammarBody, RuleReady, NodesCleaned, RuleCleaned, Cleaned, CleanedNoting};
 
+use crate::notes::Notes;
 use crate::sift::sift;
 use checks::limits::{HIGHEST_RANK, MOST_NODES, MOST_RULES};
-use grammars::cursor::span_at;
-use rule_parameters::numbers::{FLAGS, note_present, present_before, renumber};
+use grammars::cursor::RulesOf;
+use rule_parameters::numbers::{note_present, present_before, renumber};
 use rule_parameters::strict::is_lone;
 use terms::Rule;
 
@@ -18,88 +17,68 @@ pub const LONGEST_BODY: usize = 2 * MOST_RULES + MOST_NODES;
 // parameter.
 fn clean_nodes(
     alphabet: &[u8],
-    ranks: &[u8; MOST_RULES],
-    present: &mut [bool; FLAGS],
-    alone: &mut [bool; MOST_RULES],
+    notes: &mut Notes,
     rule: Rule,
     nodes: &[u8],
     kept: &mut [u8],
 ) -> usize
-    requires { RuleReady alphabet.now ranks.now present.old alone.old rule.0 nodes.now (length kept.old) }
-    ensures { NodesCleaned alphabet.now ranks.now present.old alone.old rule.0 nodes.now kept.old result present.new alone.new kept.new }
+    requires { RuleReady alphabet.now notes.old rule.0 nodes.now (length kept.old) }
+    ensures { NodesCleaned alphabet.now notes.old rule.0 nodes.now kept.old result notes.new kept.new }
 {
     let number = rule.0 as usize;
     let first = HIGHEST_RANK as usize * number;
-    let count = sift(alphabet, ranks, present, alone, nodes, kept);
-    note_present(&kept[..count], ranks[number], first, present);
-    alone[number] = is_lone(&kept[..count]);
-    renumber(&mut kept[..count], present, first);
+    let count = sift(alphabet, notes, nodes, kept);
+    note_present(
+        &kept[..count],
+        notes.ranks[number],
+        first,
+        &mut notes.present,
+    );
+    notes.alone[number] = is_lone(&kept[..count]);
+    renumber(&mut kept[..count], &notes.present, first);
     count
 }
 
 // A rule, cleaned and written from the start of a slice, behind its new rank and the number of its nodes: the answer is its length.
-fn clean_rule(
-    alphabet: &[u8],
-    ranks: &[u8; MOST_RULES],
-    present: &mut [bool; FLAGS],
-    alone: &mut [bool; MOST_RULES],
-    rule: Rule,
-    nodes: &[u8],
-    out: &mut [u8],
-) -> usize
-    requires { (2 ≤ length out.old) × RuleReady alphabet.now ranks.now present.old alone.old rule.0 nodes.now (length out.old - 2) }
-    ensures { RuleCleaned alphabet.now ranks.now present.old alone.old rule.0 nodes.now out.old result present.new alone.new out.new }
+fn clean_rule(alphabet: &[u8], notes: &mut Notes, rule: Rule, nodes: &[u8], out: &mut [u8]) -> usize
+    requires { (2 ≤ length out.old) × RuleReady alphabet.now notes.old rule.0 nodes.now (length out.old - 2) }
+    ensures { RuleCleaned alphabet.now notes.old rule.0 nodes.now out.old result notes.new out.new }
 {
     let number = rule.0 as usize;
-    let kept = clean_nodes(alphabet, ranks, present, alone, rule, nodes, &mut out[2..]);
-    out[0] = present_before(present, HIGHEST_RANK as usize * number, ranks[number]);
+    let kept = clean_nodes(alphabet, notes, rule, nodes, &mut out[2..]);
+    out[0] = present_before(
+        &notes.present,
+        HIGHEST_RANK as usize * number,
+        notes.ranks[number],
+    );
     out[1] = kept as u8;
     2 + kept
 }
 
 // The rules body of the cleaned grammar, written from the start of a slice: the answer is its length. Notes the ranks of the rules as written, and which of their
 // parameters are present.
-pub fn clean_noting(
-    alphabet: &[u8],
-    body: &[u8],
-    rules: usize,
-    ranks: &mut [u8; MOST_RULES],
-    present: &mut [bool; FLAGS],
-    cleaned: &mut [u8],
-) -> usize
-    requires { GrammarBody alphabet.now body.now rules × (longest_body ≤ length cleaned.old) × (length ranks.old ≡ most_rules) × (length present.old ≡ rule_flags) }
-    ensures { CleanedNoting alphabet.now body.now result ranks.new present.new cleaned.new }
+pub fn clean_noting(alphabet: &[u8], body: &[u8], notes: &mut Notes, cleaned: &mut [u8]) -> usize
+    requires { GrammarBody alphabet.now body.now × (longest_body ≤ length cleaned.old) }
+    ensures { CleanedNoting alphabet.now body.now result notes.new cleaned.new }
 {
-    let mut alone = [false; MOST_RULES];
-    let mut at = 0;
     let mut to = 0;
-    let mut rule = Rule(0);
-    while (rule.0 as usize) < rules {
-        let span = span_at(body, at);
-        let start = span.start;
-        let end = span.end;
-        ranks[rule.0 as usize] = span.rank;
+    for (number, rule) in (RulesOf { body }).enumerate() {
+        notes.ranks[number] = rule.rank;
         to += clean_rule(
             alphabet,
-            ranks,
-            present,
-            &mut alone,
-            rule,
-            &body[start..end],
+            notes,
+            Rule(number as u16),
+            rule.nodes,
             &mut cleaned[to..],
         );
-        at = end;
-        rule = Rule(rule.0 + 1);
     }
     to
 }
 
 // The same where nothing is to be noted.
-pub fn clean(alphabet: &[u8], body: &[u8], rules: usize, cleaned: &mut [u8]) -> usize
-    requires { GrammarBody alphabet.now body.now rules × (longest_body ≤ length cleaned.old) }
+pub fn clean(alphabet: &[u8], body: &[u8], cleaned: &mut [u8]) -> usize
+    requires { GrammarBody alphabet.now body.now × (longest_body ≤ length cleaned.old) }
     ensures { Cleaned alphabet.now body.now result cleaned.new }
 {
-    let mut ranks = [0u8; MOST_RULES];
-    let mut present = [false; FLAGS];
-    clean_noting(alphabet, body, rules, &mut ranks, &mut present, cleaned)
+    clean_noting(alphabet, body, &mut Notes::none(), cleaned)
 }

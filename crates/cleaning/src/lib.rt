@@ -2,4 +2,5 @@
 #![tactic(auto)]
 
 pub mod clean;
+pub mod notes;
 mod sift;

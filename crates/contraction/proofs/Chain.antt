@@ -1,70 +1,92 @@
--- A rule of rank 1 over what a cell represents: the code's cases are the model's, by the kind of the cell.
-use mathlib.Core.Path.{◌≡◌, sym, ap, ◌∙◌}
+-- A rule of rank 1 over what a cell represents: the code's cases are the model's, by what the cell is.
+use mathlib.Core.Path.{◌≡◌, ap, ◌∙◌}
 use mathlib.Core.List.{List, [], ◌∷◌}
+use mathlib.Core.Logic.{◌⊎◌, inl, inr}
 use Prim.Native.Nat.{ℕ, ◌<◌}
 use native.Mathlib.Omega.{arith}
 use lib.ListN.{length}
 use Rattle.terms.specs.Form.{Rule, filled, composed}
+use Rattle.terms.specs.declared.Rule.{Rule as Number}
+use Rattle.terms.specs.declared.Terminal.{Terminal as Symbol}
 use Rattle.skeletons.specs.Skeleton.{Skeleton, param, shut, under, branch}
 use Rattle.skeletons.specs.Make.{contract_chain}
 use Rattle.form_bytes.specs.declared.rule.FormRule.{FormRule}
 use Rattle.form_writing.specs.Bytes.{fields_with, Holds}
-use Rattle.cells.specs.Cells.{field, Stands, closed_fields, over_fields}
-use Rattle.cells.specs.State.{RuleAdded, CellAdded, Stood}
+use Rattle.cells.specs.Cells.{cell_at, Stands}
+use Rattle.cells.specs.Builder.{RuleAdded, CellAdded, Stood}
+use Rattle.cells.specs.declared.builder.FormBuilder.{FormBuilder}
+use Rattle.cells.specs.declared.cells.Cell.{Cell}
+use Rattle.cells.specs.declared.cells.Cell.TheVariants.{Parameter, Closed, Over, Terminal}
 use Rattle.contraction.specs.Chain.{ChainContracted}
-use Rattle.cells.specs.declared.state.Free.{Free}
-use Rattle.cells.specs.declared.state.Made.{Made}
-use Rattle.cells.proofs.Adding.{added_held, added_counted, shut-stands, under-stands, made-lower, cell-grown, rule-grown, grown-then, grown_less}
+use Rattle.cells.proofs.Adding.{added_held, added_counted, new-cell, under-stands, made-lower, cell-grown, rule-grown, grown-then, grown_less}
 
-module _ {table space space' : List ℕ} {free : Free} {r : Made} (c cell : ℕ) (lower : cell < free.cell) where
+module _ {b b₁ b' : FormBuilder} {rule : FormRule} {number : Number} {made : ℕ} (c cell : ℕ) where
   -- over a rule of rank 0
-  pub contract_chain_shut : {table' : List ℕ} {free' : Free} {rule : FormRule} (number : ℕ) → field space cell 0 ≡ 1 → field space cell 1 ≡ number
-      → rule ≡ fields_with 2 0xFF 0 (c ∷ number ∷ []) → RuleAdded rule free table free' table' → CellAdded (closed_fields free.rule.0) free' space r space'
-      → ChainContracted table space free c cell table' space' r
+  pub contract_chain_shut : (a : Number) → cell_at b.cells cell ≡ Closed a → rule ≡ fields_with 2 0xFF 0 (c ∷ a.0 ∷ []) → RuleAdded rule b number.0 b₁
+      → CellAdded (Closed number) b₁ made b' → ChainContracted b c cell b' made
   unfolding contract_chain
-  contract_chain_shut {table'} {free'} number kind is made a b = record { grown = grown-then (rule-grown a) (cell-grown b); lower = made-lower b; stood = stood }
+  contract_chain_shut a is fields w w' = record { grown = grown-then (rule-grown w) (cell-grown w'); lower = made-lower w'; stood = stood }
     where
-      stood : (rs : List Rule) (s : Skeleton) → Holds table rs → free.rule.0 ≡ length rs → Stands space cell s → Stood (contract_chain rs c s) table' space' r
-      stood rs (param i) held e p = absurd (omega (arith, p.0))
+      stood : (rs : List Rule) (s : Skeleton) → Holds b.table.now rs → b.next_rule.0 ≡ length rs → Stands b.cells cell s → Stood (contract_chain rs c s) b' made
+      stood rs (param i) held e p = cc
       stood rs (shut x) held e p =
-          let n : number ≡ x = sym is ∙ p.1 in
+          let n : a ≡ record { 0 = x } = cc in
+          let same : rule ≡ fields_with 2 0xFF 0 (c ∷ x ∷ []) = fields ∙ ap (λ (m : Number). fields_with 2 0xFF 0 (c ∷ m.0 ∷ [])) n in
           record {
-            held = added_held a rs (filled c x) held e (made ∙ ap (λ m. fields_with 2 0xFF 0 (c ∷ m ∷ [])) n);
-            counted = b.rule ∙ added_counted a rs (filled c x) held e;
-            lower = made-lower b;
-            stands = rw (← e) (shut-stands free.rule.0 b);
+            held = rw w'.table (added_held w rs (filled c x) held e same);
+            counted = ap (λ (m : Number). m.0) w'.rule ∙ added_counted w rs (filled c x) held e;
+            lower = made-lower w';
+            stands = new-cell w' ∙ ap (λ (m : ℕ). Closed (record { 0 = m })) (w.numbered ∙ e);
           }
-      stood rs (under d s) held e p = absurd (omega (arith, p.0))
-      stood rs (branch f ss) held e p = absurd (omega (arith, p.0))
+      stood rs (under d s) held e (child, at, lower, p) = cc
+      stood rs (branch f ss) held e (xs, at, four, p) = cc
 
   -- over a rule of rank 1
-  pub contract_chain_under : {table' : List ℕ} {free' : Free} {rule : FormRule} (number child : ℕ) → field space cell 0 ≡ 2 → field space cell 1 ≡ number → field space cell 3 ≡ child
-      → rule ≡ fields_with 3 0xFF 0 (c ∷ number ∷ []) → RuleAdded rule free table free' table' → CellAdded (over_fields free.rule.0 child) free' space r space'
-      → ChainContracted table space free c cell table' space' r
+  pub contract_chain_under : (a : Number) (child : ℕ) → cell < b.next_cell → cell_at b.cells cell ≡ Over a child → rule ≡ fields_with 3 0xFF 0 (c ∷ a.0 ∷ []) → RuleAdded rule b number.0 b₁
+      → CellAdded (Over number child) b₁ made b' → ChainContracted b c cell b' made
   unfolding contract_chain
-  contract_chain_under {table'} {free'} number child kind is at made a b = record { grown = grown-then (rule-grown a) (cell-grown b); lower = made-lower b; stood = stood }
+  contract_chain_under a child there is fields w w' = record { grown = grown-then (rule-grown w) (cell-grown w'); lower = made-lower w'; stood = stood }
     where
-      stood : (rs : List Rule) (s : Skeleton) → Holds table rs → free.rule.0 ≡ length rs → Stands space cell s → Stood (contract_chain rs c s) table' space' r
-      stood rs (param i) held e p = absurd (omega (arith, p.0))
-      stood rs (shut x) held e p = absurd (omega (arith, p.0))
-      stood rs (under d s) held e p =
-          let n : number ≡ d = sym is ∙ p.1 in
+      stood : (rs : List Rule) (s : Skeleton) → Holds b.table.now rs → b.next_rule.0 ≡ length rs → Stands b.cells cell s → Stood (contract_chain rs c s) b' made
+      stood rs (param i) held e p = cc
+      stood rs (shut x) held e p = cc
+      stood rs (under d s) held e (child', at, lower, p) =
+          let n : a ≡ record { 0 = d } = cc in
+          let z : child' ≡ child = cc in
+          let same : rule ≡ fields_with 3 0xFF 0 (c ∷ d ∷ []) = fields ∙ ap (λ (m : Number). fields_with 3 0xFF 0 (c ∷ m.0 ∷ [])) n in
+          let kept : Stands b₁.cells child s = rw (w.cells, ← z) p in
+          let new : Stands b'.cells made (under number.0 s) = under-stands number.0 child s (omega (arith, w.cell)) kept w' in
           record {
-            held = added_held a rs (composed c d) held e (made ∙ ap (λ m. fields_with 3 0xFF 0 (c ∷ m ∷ [])) n);
-            counted = b.rule ∙ added_counted a rs (composed c d) held e;
-            lower = made-lower b;
-            stands = rw (← e) (under-stands free.rule.0 child s (omega (arith, p.2, a.cell)) (rw at at p.3) b);
+            held = rw w'.table (added_held w rs (composed c d) held e same);
+            counted = ap (λ (m : Number). m.0) w'.rule ∙ added_counted w rs (composed c d) held e;
+            lower = made-lower w';
+            stands = rw (w.numbered ∙ e) at new;
           }
-      stood rs (branch f ss) held e p = absurd (omega (arith, p.0))
+      stood rs (branch f ss) held e (xs, at, four, p) = cc
 
-  -- over anything else
-  pub contract_chain_plain : (field space cell 0 ≡ 1 → ⊥) → (field space cell 0 ≡ 2 → ⊥) → CellAdded (over_fields c cell) free space r space'
-      → ChainContracted table space free c cell table space' r
+-- a parameter or a terminal is no rule
+abbrev Plain : Cell → Type 0
+Plain x = ((j : ℕ) × (x ≡ Parameter j)) ⊎ ((f : Symbol) × (n : ℕ) × (xs : List ℕ) × (x ≡ Terminal f n xs))
+
+no-closed : {x y : Cell} {a : Number} → x ≡ y → y ≡ Closed a → Plain x → ⊥
+no-closed e is (inl (j, p)) = cc
+no-closed e is (inr (f, n, xs, p)) = cc
+
+no-over : {x y : Cell} {a : Number} {child : ℕ} → x ≡ y → y ≡ Over a child → Plain x → ⊥
+no-over e is (inl (j, p)) = cc
+no-over e is (inr (f, n, xs, p)) = cc
+
+-- over anything else
+module _ {b b' : FormBuilder} {made : ℕ} (c : Number) (cell : ℕ) (there : cell < b.next_cell) {x : Cell} (read : x ≡ cell_at b.cells cell) (plain : Plain x) where
+  pub contract_chain_plain : CellAdded (Over c cell) b made b' → ChainContracted b c.0 cell b' made
   unfolding contract_chain
-  contract_chain_plain no-rule no-context b = record { grown = grown_less (omega arith) (omega arith) (cell-grown b); lower = made-lower b; stood = stood }
+  contract_chain_plain w = record { grown = grown_less (omega arith) (omega arith) (cell-grown w); lower = made-lower w; stood = stood }
     where
-      stood : (rs : List Rule) (s : Skeleton) → Holds table rs → free.rule.0 ≡ length rs → Stands space cell s → Stood (contract_chain rs c s) table space' r
-      stood rs (param i) held e p = record { held = held; counted = b.rule ∙ e; lower = made-lower b; stands = under-stands c cell (param i) lower p b }
-      stood rs (shut x) held e p = absurd (no-rule p.0)
-      stood rs (under d s) held e p = absurd (no-context p.0)
-      stood rs (branch f ss) held e p = record { held = held; counted = b.rule ∙ e; lower = made-lower b; stands = under-stands c cell (branch f ss) lower p b }
+      over : (rs : List Rule) (s : Skeleton) → Holds b.table.now rs → b.next_rule.0 ≡ length rs → Stands b.cells cell s → Stood (record { rules = rs; made = under c.0 s }) b' made
+      over rs s held e p = record { held = rw w.table held; counted = ap (λ (m : Number). m.0) w.rule ∙ e; lower = made-lower w; stands = under-stands c.0 cell s there p w }
+
+      stood : (rs : List Rule) (s : Skeleton) → Holds b.table.now rs → b.next_rule.0 ≡ length rs → Stands b.cells cell s → Stood (contract_chain rs c.0 s) b' made
+      stood rs (param i) held e p = over rs (param i) held e p
+      stood rs (shut a) held e p = absurd (no-closed read p plain)
+      stood rs (under d s) held e (child, at, lower, p) = absurd (no-over read at plain)
+      stood rs (branch f ss) held e p = over rs (branch f ss) held e p

@@ -1,108 +1,105 @@
 -- A terminal over cells is a step of the model, by how many of the cells are open.
-use mathlib.Core.Path.{◌≡◌, refl, sym, subst, ◌∙◌}
+use mathlib.Core.Path.{◌≡◌, sym, subst, ap, ◌∙◌}
 use mathlib.Core.List.{List, [], ◌∷◌, ◌++◌}
-use Prim.Native.Nat.{ℕ, zero, suc, ◌+◌, ◌≤◌, ◌<◌}
+use Prim.Native.Nat.{ℕ, suc, ◌+◌, ◌≤◌}
 use native.Mathlib.Omega.{arith}
 use lib.ListN.{length, get_or}
+use Rattle.std.proofs.lemmas.List.{take_all}
 use Rattle.terms.specs.Form.{Rule, whole, pierced}
-use Rattle.skeletons.specs.Skeleton.{Skeletons}
+use Rattle.terms.specs.declared.Rule.{Rule as Number}
+use Rattle.terms.specs.declared.Terminal.{Terminal as Symbol}
+use Rattle.skeletons.specs.Skeleton.{Skeletons, size}
 use Rattle.skeletons.specs.Make.{Sort, closed, single, several, sort, contract_terminal_by, contract_terminal, contract_chain}
-use Rattle.skeletons.specs.Skeleton.{size}
 use Rattle.form_bytes.specs.declared.rule.FormRule.{FormRule}
 use Rattle.form_writing.specs.Bytes.{fields_for, Holds}
-use Rattle.cells.specs.Cells.{Row, closed_fields}
-use Rattle.cells.specs.State.{RuleAdded, CellAdded, TerminalAdded, Stood}
+use Rattle.std.specs.Prelude.{min}
+use Rattle.cells.specs.Cells.{Row, children_from, terminal_over}
+use Rattle.cells.specs.Builder.{RuleAdded, CellAdded, Stood}
+use Rattle.cells.specs.declared.builder.FormBuilder.{FormBuilder}
+use Rattle.cells.specs.declared.cells.Cell.TheVariants.{Closed, Terminal}
 use Rattle.contraction.specs.Chain.{ChainContracted}
-use Rattle.contraction.specs.Terminal.{Children, Sorted, Opens, fields_over, ContractedWhere, TerminalContracted}
+use Rattle.contraction.specs.Terminal.{Sorted, Opens, fields_over, ContractedWhere, TerminalContracted}
 use Rattle.contraction.specs.declared.contract_terminal.Open.{Open}
 use Rattle.contraction.specs.declared.contract_terminal.Open.TheVariants.{Nowhere, At, Several}
-use Rattle.cells.specs.declared.state.Free.{Free}
-use Rattle.cells.specs.declared.state.Made.{Made}
-use Rattle.cells.proofs.Standing.{row_moved}
-use Rattle.cells.proofs.Adding.{added_held, added_counted, shut-stands, branch-stands, made-lower, cell-grown, rule-grown, grown-then, grown_less}
+use Rattle.cells.proofs.Adding.{added_held, added_counted, new-cell, branch-stands, made-lower, cell-grown, rule-grown, grown-then, grown_less}
 use Rattle.contraction.proofs.OpenChildren.{Described, described, closed_fields_lem, single_fields}
 
-module _ {table table' space space' : List ℕ} {free free' : Free} {r : Made} {rule : FormRule} (f rank : ℕ) (xs : List ℕ) where
+described_row : (b : FormBuilder) (xs : List ℕ) (ss : Skeletons) → Row b.cells b.next_cell xs ss → size ss ≡ length xs → Described b.cells b.next_cell xs (length xs) (sort ss)
+described_row b xs ss row n = subst (λ (m : ℕ). Described b.cells b.next_cell xs m (sort ss)) n (described b.cells b.next_cell xs ss row)
+
+module _ {b b₁ b' : FormBuilder} {rule : FormRule} {number : Number} {made : ℕ} (f : ℕ) (xs : List ℕ) where
   -- over closed cells
-  pub closes : rule ≡ fields_over space 0 f 0 rank xs → RuleAdded rule free table free' table' → CellAdded (closed_fields free.rule.0) free' space r space'
-      → ContractedWhere Nowhere table space free f rank xs table' space' r
+  pub closes : rule ≡ fields_over b.cells 0 f 0 xs → RuleAdded rule b number.0 b₁ → CellAdded (Closed number) b₁ made b' → ContractedWhere Nowhere b f xs b' made
   unfolding contract_terminal contract_terminal_by
-  closes is a b = record { grown = grown_less (omega arith) (omega arith) (grown-then (rule-grown a) (cell-grown b)); lower = made-lower b; stood = stood }
+  closes is w w' = record {
+    grown = grown_less (omega arith) (omega arith) (grown-then (rule-grown w) (cell-grown w'));
+    lower = made-lower w';
+    stood = λ rs ss held e row n q. go rs ss held e (sort ss) q (described_row b xs ss row n);
+  }
     where
-      go : (rs : List Rule) (ss : Skeletons) → Holds table rs → free.rule.0 ≡ length rs → (t : Sort) → Sorted 0 Nowhere t → Described space free.cell xs rank t
-          → Stood (contract_terminal_by rs f ss t) table' space' r
+      go : (rs : List Rule) (ss : Skeletons) → Holds b.table.now rs → b.next_rule.0 ≡ length rs → (t : Sort) → Sorted 0 Nowhere t → Described b.cells b.next_cell xs (length xs) t
+          → Stood (contract_terminal_by rs f ss t) b' made
       go rs ss held e (closed slots) q d = record {
-        held = added_held a rs (whole f slots) held e (is ∙ closed_fields_lem space xs rank f slots d);
-        counted = b.rule ∙ added_counted a rs (whole f slots) held e;
-        lower = made-lower b;
-        stands = rw (← e) (shut-stands free.rule.0 b);
+        held = rw w'.table (added_held w rs (whole f slots) held e (is ∙ closed_fields_lem b.cells xs f slots d));
+        counted = ap (λ (m : Number). m.0) w'.rule ∙ added_counted w rs (whole f slots) held e;
+        lower = made-lower w';
+        stands = new-cell w' ∙ ap (λ (m : ℕ). Closed (record { 0 = m })) (w.numbered ∙ e);
       }
       go rs ss held e (single ls s us) q d = absurd q
       go rs ss held e several q d = absurd q
 
-      stood : (rs : List Rule) (ss : Skeletons) → Holds table rs → free.rule.0 ≡ length rs → Row space free.cell xs ss → size ss ≡ rank → Sorted 0 Nowhere (sort ss)
-          → Stood (contract_terminal rs f ss) table' space' r
-      stood rs ss held e row n q = go rs ss held e (sort ss) q (subst (λ (m : ℕ). Described space free.cell xs m (sort ss)) n (described space free.cell xs ss row))
+  -- over cells of which one is open
+  pub pierces : (place : ℕ) → rule ≡ fields_over b.cells 1 f (place + 1) xs → RuleAdded rule b number.0 b₁ → ChainContracted b₁ number.0 (get_or xs place 0) b' made
+      → ContractedWhere (At place) b f xs b' made
+  unfolding contract_terminal contract_terminal_by
+  pierces place is w w' = record {
+    grown = grown-then (rule-grown w) w'.grown;
+    lower = w'.lower;
+    stood = λ rs ss held e row n q. go rs ss held e (sort ss) q (described_row b xs ss row n);
+  }
+    where
+      go : (rs : List Rule) (ss : Skeletons) → Holds b.table.now rs → b.next_rule.0 ≡ length rs → (t : Sort) → Sorted 0 (At place) t → Described b.cells b.next_cell xs (length xs) t
+          → Stood (contract_terminal_by rs f ss t) b' made
+      go rs ss held e (closed slots) q d = absurd q
+      go rs ss held e (single ls s us) q d =
+          let x = pierced f ls us in
+          let at : place ≡ length ls = omega arith in
+          let hole : place + 1 ≡ suc (length ls) = omega arith in
+          let fields : fields_over b.cells 1 f (place + 1) xs ≡ fields_for x = rw hole (single_fields b.cells xs f b.next_cell ls s us d) in
+          subst (λ (c : ℕ). Stood (contract_chain (rs ++ (x ∷ [])) c s) b' made) (w.numbered ∙ e)
+          (w'.stood (rs ++ (x ∷ [])) s (added_held w rs x held e (is ∙ fields)) (added_counted w rs x held e) (rw (w.cells, at) d.stands))
+      go rs ss held e several q d = absurd q
 
--- over cells of which one is open
-pub pierces : {table table' table'' space space' : List ℕ} {free free' : Free} {r : Made} {rule : FormRule} (f rank : ℕ) (xs : List ℕ) (place : ℕ)
-    → rule ≡ fields_over space 1 f (place + 1) rank xs → RuleAdded rule free table free' table' → ChainContracted table' space free' free.rule.0 (get_or xs place 0) table'' space' r
-    → ContractedWhere (At place) table space free f rank xs table'' space' r
-unfolding contract_terminal contract_terminal_by
-pierces {table} {table'} {table''} {space} {space'} {free} {free'} {r} f rank xs place is a b = record { grown = grown-then (rule-grown a) b.grown; lower = b.lower; stood = stood }
-  where
-    go : (rs : List Rule) (ss : Skeletons) → Holds table rs → free.rule.0 ≡ length rs → (t : Sort) → Sorted 0 (At place) t → Described space free.cell xs rank t
-        → Stood (contract_terminal_by rs f ss t) table'' space' r
-    go rs ss held e (closed slots) q d = absurd q
-    go rs ss held e (single ls s us) q d =
-        let x = pierced f ls us in
-        let at : place ≡ length ls = omega arith in
-        let hole : place + 1 ≡ suc (length ls) = omega arith in
-        let fields : fields_over space 1 f (place + 1) rank xs ≡ fields_for x = rw hole (single_fields space xs rank f free.cell ls s us d) in
-        let h = added_held a rs x held e (is ∙ fields) in
-        subst (λ (c : ℕ). Stood (contract_chain (rs ++ (x ∷ [])) c s) table'' space' r) e (b.stood (rs ++ (x ∷ [])) s h (added_counted a rs x held e) (rw at d.stands))
-    go rs ss held e several q d = absurd q
-
-    stood : (rs : List Rule) (ss : Skeletons) → Holds table rs → free.rule.0 ≡ length rs → Row space free.cell xs ss → size ss ≡ rank → Sorted 0 (At place) (sort ss)
-        → Stood (contract_terminal rs f ss) table'' space' r
-    stood rs ss held e row n q = go rs ss held e (sort ss) q (subst (λ (m : ℕ). Described space free.cell xs m (sort ss)) n (described space free.cell xs ss row))
-
-four_same : (xs : List ℕ) (j : ℕ) → j < 4 → get_or (get_or xs 0 0 ∷ get_or xs 1 0 ∷ get_or xs 2 0 ∷ get_or xs 3 0 ∷ []) j 0 ≡ get_or xs j 0
-four_same xs zero h = refl
-four_same xs (suc zero) h = refl
-four_same xs (suc (suc zero)) h = refl
-four_same xs (suc (suc (suc zero))) h = refl
-four_same xs (suc (suc (suc (suc j)))) h = absurd (omega arith)
+-- a terminal over four cells or fewer
+pub all_kept : (f : Symbol) (xs : List ℕ) → length xs ≤ 4 → terminal_over f xs ≡ Terminal f (length xs) (children_from xs)
+all_kept f xs few =
+    let n : min (length xs) 4 ≡ length xs = omega arith in
+    rw (n, take_all 4 xs few)
 
 -- over cells of which several are open
-pub branches : {table space space' : List ℕ} {free : Free} {r : Made} (f rank : ℕ) (xs : List ℕ) → f < 256 → rank ≤ 4 → TerminalAdded f rank xs free space r space'
-    → ContractedWhere Several table space free f rank xs table space' r
+pub branches : {b b' : FormBuilder} {made : ℕ} (f : Symbol) (xs : List ℕ) → length xs ≤ 4 → CellAdded (Terminal f (length xs) (children_from xs)) b made b' → ContractedWhere Several b f.0 xs b' made
 unfolding contract_terminal contract_terminal_by
-branches {table} {space} {space'} {free} {r} f rank xs small few b = record { grown = grown_less (omega arith) (omega arith) (cell-grown b); lower = made-lower b; stood = stood }
+branches {b} {b'} {made} f xs few w = record {
+  grown = grown_less (omega arith) (omega arith) (cell-grown w);
+  lower = made-lower w;
+  stood = λ rs ss held e row n q. go rs ss held e (sort ss) q row n;
+}
   where
-    go : (rs : List Rule) (ss : Skeletons) → Holds table rs → free.rule.0 ≡ length rs → (t : Sort) → Sorted 0 Several t → Row space free.cell xs ss → size ss ≡ rank
-        → Stood (contract_terminal_by rs f ss t) table space' r
+    go : (rs : List Rule) (ss : Skeletons) → Holds b.table.now rs → b.next_rule.0 ≡ length rs → (t : Sort) → Sorted 0 Several t → Row b.cells b.next_cell xs ss → size ss ≡ length xs
+        → Stood (contract_terminal_by rs f.0 ss t) b' made
     go rs ss held e (closed slots) q row n = absurd q
     go rs ss held e (single ls s us) q row n = absurd q
     go rs ss held e several q row n = record {
-      held = held;
-      counted = b.rule ∙ e;
-      lower = made-lower b;
-      stands = branch-stands f rank _ _ _ _ ss small (sym n) (row_moved space free.cell xs _ ss (omega arith) (λ j h. four_same xs j (omega arith)) row) b;
+      held = rw w.table held;
+      counted = ap (λ (m : Number). m.0) w.rule ∙ e;
+      lower = made-lower w;
+      stands = branch-stands f.0 xs ss (sym n) few row w;
     }
 
-    stood : (rs : List Rule) (ss : Skeletons) → Holds table rs → free.rule.0 ≡ length rs → Row space free.cell xs ss → size ss ≡ rank → Sorted 0 Several (sort ss)
-        → Stood (contract_terminal rs f ss) table space' r
-    stood rs ss held e row n q = go rs ss held e (sort ss) q row n
-
 -- over any cells
-pub grows : {table table' space space' : List ℕ} {free : Free} {r : Made} (f rank : ℕ) (xs : List ℕ) {o : Open} (o' : Open) → o ≡ o' → Opens space rank xs o
-    → ContractedWhere o' table space free f rank xs table' space' r → TerminalContracted table space free f rank xs table' space' r
-grows {space = space} {free = free} f rank xs o' e p g = record {
+pub grows : {b b' : FormBuilder} {made f : ℕ} {xs : List ℕ} {o : Open} (o' : Open) → o ≡ o' → Opens b.cells xs o → ContractedWhere o' b f xs b' made → TerminalContracted b f xs b' made
+grows {b} o' e p g = record {
   grown = g.grown;
   lower = g.lower;
-  stood = λ rs ss held n row count. g.stood rs ss held n row count (rw e at (p.sorted free.cell ss row count));
+  stood = λ rs ss held n row count. g.stood rs ss held n row count (rw e at (p.sorted b.next_cell ss row count));
 }
-
-pub children-below : {rank limit : ℕ} {xs : List ℕ} (limit' : ℕ) → limit ≤ limit' → Children rank limit xs → Children rank limit' xs
-children-below limit' h p = record { few = p.few; there = p.there; each = λ j l. omega (arith, p.each j l) }

@@ -5,12 +5,11 @@ use Rattle.skeletons.specs.Skeleton.{Skeleton}
 use Rattle.skeletons.specs.Make.{contract_chain}
 use Rattle.form_writing.specs.Bytes.{Holds}
 use Rattle.cells.specs.Cells.{Stands}
-use Rattle.cells.specs.State.{Grown, Stood}
-use Rattle.cells.specs.declared.state.Free.{Free}
-use Rattle.cells.specs.declared.state.Made.{Made}
+use Rattle.cells.specs.Builder.{Grown, Stood}
+use Rattle.cells.specs.declared.builder.FormBuilder.{FormBuilder}
 
 -- a step of rank-1 rule c over a cell is that of the model
-pub record ChainContracted (table space : List ℕ) (free : Free) (c cell : ℕ) (table' space' : List ℕ) (r : Made) : Type 0 where
-  pub grown : Grown 1 1 table space free table' space' r.free
-  pub lower : r.cell < r.free.cell
-  pub stood : (rs : List Rule) (s : Skeleton) → Holds table rs → free.rule.0 ≡ length rs → Stands space cell s → Stood (contract_chain rs c s) table' space' r
+pub record ChainContracted (b : FormBuilder) (c cell : ℕ) (b' : FormBuilder) (made : ℕ) : Type 0 where
+  pub grown : Grown 1 1 b b'
+  pub lower : made < b'.next_cell
+  pub stood : (rs : List Rule) (s : Skeleton) → Holds b.table.now rs → b.next_rule.0 ≡ length rs → Stands b.cells cell s → Stood (contract_chain rs c s) b' made

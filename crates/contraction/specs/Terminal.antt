@@ -7,12 +7,12 @@ use Rattle.skeletons.specs.Make.{Sort, closed, single, several, sort, contract_t
 use Rattle.skeletons.specs.Skeleton.{size}
 use Rattle.form_bytes.specs.declared.rule.FormRule.{FormRule}
 use Rattle.form_writing.specs.Bytes.{Holds}
-use Rattle.cells.specs.Cells.{closed_at, Row}
-use Rattle.cells.specs.State.{Grown, Stood}
+use Rattle.cells.specs.Cells.{cell_at, slot_for, Row}
+use Rattle.cells.specs.Builder.{Grown, Stood}
+use Rattle.cells.specs.declared.builder.FormBuilder.{FormBuilder}
+use Rattle.cells.specs.declared.cells.Cell.{Cell}
 use Rattle.contraction.specs.declared.contract_terminal.Open.{Open}
 use Rattle.contraction.specs.declared.contract_terminal.Open.TheVariants.{Nowhere, At, Several}
-use Rattle.cells.specs.declared.state.Free.{Free}
-use Rattle.cells.specs.declared.state.Made.{Made}
 
 -- a child in front of others, closed or open
 abbrev pub with_child : Bool → ℕ → Open → Open
@@ -21,11 +21,10 @@ with_child false place Nowhere = At place
 with_child false place (At p) = Several
 with_child false place Several = Several
 
--- as many cells as the rank, which is at most 4, lie below a limit
-pub record Children (rank limit : ℕ) (xs : List ℕ) : Type 0 where
-  pub few : rank ≤ 4
-  pub there : rank ≤ length xs
-  pub each : (j : ℕ) → j < rank → get_or xs j 0 < limit
+-- at most four cells, which lie below a limit
+pub record Children (limit : ℕ) (xs : List ℕ) : Type 0 where
+  pub few : length xs ≤ 4
+  pub each : (j : ℕ) → j < length xs → get_or xs j 0 < limit
 
 -- what the code finds open is what the model finds, places counted from a number on
 abbrev pub Sorted : ℕ → Open → Sort → Type 0
@@ -46,36 +45,36 @@ OpenBelow rank (At p) = p < rank
 OpenBelow rank Several = Unit {0}
 
 -- which of the cells are open
-pub record Opens (cells : List ℕ) (rank : ℕ) (xs : List ℕ) (r : Open) : Type 0 where
-  pub within : OpenBelow rank r
-  pub sorted : (limit : ℕ) (ss : Skeletons) → Row cells limit xs ss → size ss ≡ rank → Sorted 0 r (sort ss)
+pub record Opens (cells : List Cell) (xs : List ℕ) (r : Open) : Type 0 where
+  pub within : OpenBelow (length xs) r
+  pub sorted : (limit : ℕ) (ss : Skeletons) → Row cells limit xs ss → size ss ≡ length xs → Sorted 0 r (sort ss)
 
 -- slot j of a terminal's rule over cells
-abbrev pub slot_at : List ℕ → ℕ → List ℕ → ℕ → ℕ → ℕ
-slot_at cells rank xs hole j = cond (ltb j rank && not (eqb (suc j) hole)) (closed_at cells (get_or xs j 0)) unused
+abbrev pub slot_at : List Cell → List ℕ → ℕ → ℕ → ℕ
+slot_at cells xs hole j = cond (ltb j (length xs) && not (eqb (suc j) hole)) (slot_for (cell_at cells (get_or xs j 0))) unused
 
 -- the fields of a terminal's rule over cells
-abbrev pub fields_over : List ℕ → ℕ → ℕ → ℕ → ℕ → List ℕ → FormRule
-fields_over cells kind f hole rank xs = record {
+abbrev pub fields_over : List Cell → ℕ → ℕ → ℕ → List ℕ → FormRule
+fields_over cells kind f hole xs = record {
   kind = kind;
   terminal = record { 0 = f };
   hole = hole;
-  slot0 = record { 0 = slot_at cells rank xs hole 0 };
-  slot1 = record { 0 = slot_at cells rank xs hole 1 };
-  slot2 = record { 0 = slot_at cells rank xs hole 2 };
-  slot3 = record { 0 = slot_at cells rank xs hole 3 };
+  slot0 = record { 0 = slot_at cells xs hole 0 };
+  slot1 = record { 0 = slot_at cells xs hole 1 };
+  slot2 = record { 0 = slot_at cells xs hole 2 };
+  slot3 = record { 0 = slot_at cells xs hole 3 };
 }
 
 -- a step of a terminal over cells is that of the model, where so many of the cells are open
-pub record ContractedWhere (o : Open) (table space : List ℕ) (free : Free) (f rank : ℕ) (xs table' space' : List ℕ) (r : Made) : Type 0 where
-  pub grown : Grown 2 1 table space free table' space' r.free
-  pub lower : r.cell < r.free.cell
-  pub stood : (rs : List Rule) (ss : Skeletons) → Holds table rs → free.rule.0 ≡ length rs → Row space free.cell xs ss → size ss ≡ rank → Sorted 0 o (sort ss)
-      → Stood (contract_terminal rs f ss) table' space' r
+pub record ContractedWhere (o : Open) (b : FormBuilder) (f : ℕ) (xs : List ℕ) (b' : FormBuilder) (made : ℕ) : Type 0 where
+  pub grown : Grown 2 1 b b'
+  pub lower : made < b'.next_cell
+  pub stood : (rs : List Rule) (ss : Skeletons) → Holds b.table.now rs → b.next_rule.0 ≡ length rs → Row b.cells b.next_cell xs ss → size ss ≡ length xs → Sorted 0 o (sort ss)
+      → Stood (contract_terminal rs f ss) b' made
 
 -- a step of a terminal over cells is that of the model
-pub record TerminalContracted (table space : List ℕ) (free : Free) (f rank : ℕ) (xs table' space' : List ℕ) (r : Made) : Type 0 where
-  pub grown : Grown 2 1 table space free table' space' r.free
-  pub lower : r.cell < r.free.cell
-  pub stood : (rs : List Rule) (ss : Skeletons) → Holds table rs → free.rule.0 ≡ length rs → Row space free.cell xs ss → size ss ≡ rank
-      → Stood (contract_terminal rs f ss) table' space' r
+pub record TerminalContracted (b : FormBuilder) (f : ℕ) (xs : List ℕ) (b' : FormBuilder) (made : ℕ) : Type 0 where
+  pub grown : Grown 2 1 b b'
+  pub lower : made < b'.next_cell
+  pub stood : (rs : List Rule) (ss : Skeletons) → Holds b.table.now rs → b.next_rule.0 ≡ length rs → Row b.cells b.next_cell xs ss → size ss ≡ length xs
+      → Stood (contract_terminal rs f ss) b' made

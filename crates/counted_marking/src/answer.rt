@@ -1,10 +1,11 @@
 // What a marking that is counted answers.
 use marking::answer::Mark;
 use tallies::tally::Tally;
+use terms::refusals::Refusal;
 
 // The answer, and the tally that it leaves.
-#[derive(Clone, Copy)]
+#[derive(Clone, Copy, Debug, PartialEq, Eq)]
 pub struct Marking {
-    pub mark: Mark,
+    pub mark: Result<Mark, Refusal>,
     pub tally: Tally,
 }

@@ -4,25 +4,32 @@ ghost use Rattle.terms.specs.Calls.{marking_refusal};
 ghost use Rattle.marking.specs.Marking.{answer_of_mark, SlicesLeft};
 ghost use Rattle.tallies.specs.Counts.{way, counted};
 ghost use Rattle.tallies.specs.Lists.{marking};
+ghost use Rattle.counted_marking.specs.Way.{moved_place};
 
 use crate::answer::Marking;
-use marking::answer::Mark;
+use marking::answer::{Mark, Verdict};
 use marking::mark::mark_sheet;
-use tallies::tally::{ACCEPTED, DECLINED, TURNED_AWAY, Tally, WAYS, count_up, tally_refusal};
+use tallies::tally::{Tally, Way, check_candidate, count_up};
+use terms::refusals::Refusal;
 
-// Which count of its candidate an answer moves on; a refusal other than 1 to 16 moves none, for which WAYS stands.
-fn way_of(mark: Mark) -> usize
-    ensures { result ≡ way (answer_of_mark mark) }
+// The last of the refusals that turn a sheet away, which are those for the sheet itself.
+const LAST_TURNED_AWAY: u8 = 16;
+
+// Which count of its candidate an answer moves on; a refusal other than 1 to 16 moves none.
+fn way_of(mark: Result<Mark, Refusal>) -> Option<Way>
+    ensures { moved_place result ≡ way (answer_of_mark mark) }
 {
     match mark {
-        Mark::Refused(n) => {
-            if n < 1 || 16 < n {
-                return WAYS;
+        Ok(mark) => match mark.verdict {
+            Verdict::Accepted => Some(Way::Accepted),
+            Verdict::Declined => Some(Way::Declined),
+        },
+        Err(refusal) => {
+            if LAST_TURNED_AWAY < refusal.number() {
+                return None;
             }
-            TURNED_AWAY
+            Some(Way::TurnedAway)
         }
-        Mark::Accepted(_) => ACCEPTED,
-        Mark::Declined(_) => DECLINED,
     }
 }
 
@@ -33,19 +40,15 @@ pub fn mark_among(
     relations: &mut [u64],
     candidate: usize,
     counts: &mut [u32],
-) -> Mark
+) -> Result<Mark, Refusal>
     requires { 48 ≤ length counts.old }
     ensures answer { answer_of_mark result ≡ marking counts.old candidate sheet.now (length form.old) (length relations.old) }
     ensures counts { counts.new ≡ counted candidate (answer_of_mark result) counts.old }
     ensures slices { SlicesLeft (marking_refusal counts.old candidate sheet.now (length form.old) (length relations.old)) sheet.now form.new form.old relations.new relations.old }
 {
-    let refusal = tally_refusal(counts, candidate);
-    if refusal != 0 {
-        return Mark::Refused(refusal);
-    }
+    check_candidate(counts, candidate)?;
     let mark = mark_sheet(sheet, form, relations);
-    let way = way_of(mark);
-    if way < WAYS {
+    if let Some(way) = way_of(mark) {
         count_up(counts, candidate, way);
     }
     mark

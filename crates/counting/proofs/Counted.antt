@@ -9,11 +9,11 @@ use lib.ListN.{length, get_or, take, drop, length-append, length-take, length-dr
 use lib.Seq.{get_or-take, get_or-append-add, take_at, drop-append-add, sets-eq, drop-drop}
 use Rattle.terms.specs.Test.{joined}
 use Rattle.terms.specs.Form.{Rule, value_at}
-use Rattle.terms.specs.FormBytes.{rule_length, table_count, table_rule, table_rules}
+use Rattle.terms.specs.FormBytes.{table_count, table_rule, table_rules}
 use Rattle.terms.specs.Count.{own_nodes, nodes_before, capped}
 use Rattle.terms.specs.Calls.{counts_per_rule, value_counts, rules_counts}
 use Rattle.forms.specs.Private.Table.{ValidTable}
-use Rattle.forms.proofs.Rules.{rules-counted, valid-rules, rule-whole, in_rules, rule-is}
+use Rattle.forms.proofs.Rules.{rules-counted, valid-rules, in_rules, rule-is}
 use Rattle.counting.specs.Private.Counts.{own_by, before_by, HasCounts, own_in, before_in, counts_written, counts_below, CountedTable, CountedRule}
 use Rattle.counting.proofs.Sums.{own-capped, before-capped}
 
@@ -80,9 +80,6 @@ module _ (rules : List Rule) where
 module _ {alphabet table counts : List ℕ} (known : CountedTable alphabet table counts) where
   abbrev rules : List Rule
   rules = table_rules alphabet table
-
-  pub rule-there : (i : ℕ) → i < table_count table → rule_length * i + rule_length ≤ length table
-  rule-there = rule-whole alphabet table known.valid
 
   pub counts-long : counts_per_rule * table_count table ≤ length counts
   counts-long =

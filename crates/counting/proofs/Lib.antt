@@ -4,5 +4,4 @@ pub mod Sums
 pub mod Slots
 pub mod Readable
 pub mod Counted
-pub mod Front
 pub mod Start

@@ -1,4 +1,4 @@
--- The slots of a rule of kind 0 or 1 name rules that have counts, where the numbers hold the counts of lower rules.
+-- The slots of a rule name rules that have counts, where the numbers hold the counts of lower rules.
 use mathlib.Core.Path.{◌≡◌}
 use mathlib.Core.List.{List}
 use Prim.Native.Nat.{ℕ, ◌+◌, ◌-◌, ◌*◌, ◌≤◌, ◌<◌}
@@ -10,8 +10,8 @@ use Rattle.terms.specs.Form.{Rule, pierced, Has, Slots, Fits}
 use Rattle.terms.specs.FormBytes.{table_count, rule_byte, slot_of, table_rules}
 use Rattle.terms.specs.Calls.{counts_per_rule}
 use Rattle.forms.specs.Private.Table.{ValidTable}
-use Rattle.forms.proofs.Rules.{slots_at, rule-whole, rank-low, fits, is_whole, is-pierced, hole-within}
-use Rattle.counting.specs.Private.Counts.{Readable}
+use Rattle.forms.proofs.Rules.{slots_at, rank-low, fits, is_whole, is-pierced, hole-within, chain-low}
+use Rattle.counting.specs.Private.Counts.{HasCounts, Readable}
 
 module _ (alphabet table : List ℕ) (v : ValidTable alphabet table) (i : ℕ) (l : i < table_count table) where
   abbrev n : ℕ
@@ -31,10 +31,16 @@ module _ (alphabet table : List ℕ) (v : ValidTable alphabet table) (i : ℕ) (
 
   module _ (counts : List ℕ) (room : counts_per_rule * i ≤ length counts) where
     readable : (from to : ℕ) → from ≤ to → to ≤ 4 → ((j : ℕ) → from ≤ j → j < to → Has rules i 0 (slot j)) → Readable table counts i from to
-    readable from to b t has = record { long = rule-whole alphabet table v i l; order = b; few = t; low = λ j x y. omega (arith, (has j x y).below) }
+    readable from to b t has = record { rule = l; order = b; few = t; low = λ j x y. omega (arith, (has j x y).below) }
 
     pub whole_readable : rule_byte table i 0 ≡ 0 → Readable table counts i 0 n
     whole_readable k = readable 0 n (omega arith) low (λ j x. slots_at rules i n slot (rw (is_whole alphabet table v i l k) at (fits alphabet table v i l)).0 j)
+
+    -- kinds 2 and 3
+    pub chain_counted : 2 ≤ rule_byte table i 0 → HasCounts counts (slot 0) × HasCounts counts (slot 1)
+    chain_counted k =
+        let low = chain-low alphabet table v i l k in
+        omega (arith, low.0, low.1)
 
     -- kind 1: the slots before the hole and those after it
     module _ (k : rule_byte table i 0 ≡ 1) where

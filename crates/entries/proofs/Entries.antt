@@ -16,7 +16,7 @@ use Rattle.terms.proofs.Tabulate.{length-tabulate, get_d_tabulate, tabulate-more
 use Rattle.terms.proofs.Automaton.Entry.{relation-next}
 use Rattle.forms.specs.Private.Table.{ValidTable}
 use Rattle.forms.proofs.Rules.{valid-rules, in_rules, rule-is}
-use Rattle.entries.specs.Evaluable.{entry_in, relations_in, written_from}
+use Rattle.entries.specs.Entries.{entry_in, relations_in, written_from}
 
 -- the entry of rule i of a table
 abbrev pub entry_at : List ℕ → List ℕ → List ℕ → ℕ → ℕ

@@ -12,11 +12,11 @@ use Rattle.terms.specs.Sheet.{transitions_of}
 use Rattle.terms.specs.FormBytes.{table_count, slot_of, rule_of_kind, table_rule, table_rules}
 use Rattle.terms.proofs.Tabulate.{length-tabulate, take-tabulate, tabulate_at}
 use Rattle.forms.proofs.Rules.{rank-low, fits}
-use Rattle.transitions.specs.Step.{Ready, closed_step, open_step}
+use Rattle.transitions.specs.Step.{closed_step, open_step}
 use Rattle.transitions.proofs.Node.{closed-relation, open_relation}
 use Rattle.form_bytes.specs.declared.rule.FormRule.{FormRule}
 use Rattle.form_bytes.specs.Fields.{fields_at}
-use Rattle.entries.specs.Evaluable.{Evaluable}
+use Rattle.forms.specs.Private.Table.{ValidTable}
 
 -- Of the states of four slots, as many as the rank are those of the node's children.
 
@@ -40,12 +40,12 @@ module _ (w slot : ℕ → ℕ) (n : ℕ) (low : n ≤ 4) where
 
 -- A rule that was read from a valid table: what a step through the automaton asks, and the entry, by its kind.
 
-module _ {alphabet automaton table spread links : List ℕ} (e : Evaluable alphabet automaton table spread links) (i : ℕ) (l : i < table_count table) (rule : FormRule) (read : rule ≡ fields_at table i) where
+module _ {alphabet table : List ℕ} (automaton : List ℕ) (v : ValidTable alphabet table) (i : ℕ) (l : i < table_count table) (rule : FormRule) (read : rule ≡ fields_at table i) where
   abbrev rank : ℕ
   rank = terminal_rank alphabet rule.terminal.0
 
   low : rank ≤ 4
-  low = rank-low alphabet table e.valid rule.terminal.0
+  low = rank-low alphabet table v rule.terminal.0
 
   -- the rule by its fields
   abbrev fields : Rule
@@ -56,20 +56,17 @@ module _ {alphabet automaton table spread links : List ℕ} (e : Evaluable alpha
   same-rule = rw read
 
   rule_fits_lem : Fits alphabet (table_rules alphabet table) i fields
-  rule_fits_lem = rw same-rule at (fits alphabet table e.valid i l)
+  rule_fits_lem = rw same-rule at (fits alphabet table v i l)
 
-  ready : rule.terminal.0 < length alphabet → Ready alphabet automaton links rule.terminal.0
-  ready known = record { alphabet_passes = e.valid.ranked; automaton_passes = e.automaton_passes; linked = e.linked; terminal = known }
+  pub whole_known : rule.kind ≡ 0 → rule.terminal.0 < length alphabet
+  whole_known kind = (rw kind at rule_fits_lem).1.known
 
-  pub whole_ready : rule.kind ≡ 0 → Ready alphabet automaton links rule.terminal.0
-  whole_ready kind = ready (rw kind at rule_fits_lem).1.known
-
-  pub pierced_ready : rule.kind ≡ 1 → Ready alphabet automaton links rule.terminal.0 × (1 ≤ rule.hole) × (rule.hole ≤ rank)
-  pierced_ready kind =
+  pub pierced_known : rule.kind ≡ 1 → (rule.terminal.0 < length alphabet) × (1 ≤ rule.hole) × (rule.hole ≤ rank)
+  pierced_known kind =
       let arity = (rw kind at rule_fits_lem).2 in
       let before = length-tabulate (rule.hole - 1) (slot_of table i) in
       let behind = length-tabulate (rank - rule.hole) (λ j. slot_of table i (rule.hole + j)) in
-      (ready arity.known, omega (arith, arity.rank, before, behind), omega (arith, arity.rank, before, behind))
+      (arity.known, omega (arith, arity.rank, before, behind), omega (arith, arity.rank, before, behind))
 
   module _ (w : ℕ → ℕ) where
     abbrev entry : ℕ
@@ -94,7 +91,7 @@ module _ {alphabet automaton table spread links : List ℕ} (e : Evaluable alpha
         let h = rule.hole in
         let ls = tabulate (h - 1) slot in
         let rs = tabulate (rank - h) (λ j. slot (h + j)) in
-        let (_, from, to) = pierced_ready kind in
+        let (_, from, to) = pierced_known kind in
         rw (same-rule, kind, same_sets)
         (ap (open_step alphabet automaton rule.terminal.0 _) (sym (length-tabulate (h - 1) slot))
         ∙ open_relation alphabet automaton _ ls rs rule.terminal.0 (w (slot (h - 1)) % 256) w (open_slots w slot rank low h from to))

@@ -1,1 +1,1 @@
-pub mod Evaluable
+pub mod Entries

@@ -1,19 +1,21 @@
 -- The entries of a form's rules in a lent slice: what runs say of them, and the mask.
-use mathlib.Core.Path.{◌≡◌, sym, subst}
+use mathlib.Core.Path.{◌≡◌, refl, sym, ap, subst, ◌∙◌}
 use mathlib.Core.List.{List}
-use Prim.Native.Nat.{ℕ, ◌%◌, ◌<◌}
+use Prim.Native.Nat.{ℕ, ◌-◌, ◌%◌, ◌<◌}
+use lib.ListN.{length}
 use native.Mathlib.Nat.{mod-eq_of_lt}
 use native.Mathlib.Omega.{arith}
 use Rattle.terms.specs.Form.{value_at}
 use Rattle.terms.specs.Sheet.{transitions_of}
-use Rattle.terms.specs.FormBytes.{rule_count, start_of, table_of, form_rules, form_tree}
+use Rattle.terms.specs.FormBytes.{rule_count, table_count, start_of, table_of, form_rules, form_tree}
 use Rattle.terms.specs.Runs.{EntryRuns, EvaluationRuns}
 use Rattle.terms.specs.Calls.{lent_after, relations_of, form_mask}
 use Rattle.terms.proofs.Form.Bytes.{table_count_lem}
 use Rattle.terms.proofs.Automaton.Mask.{mask_lt, mask_iff}
 use Rattle.terms.proofs.Automaton.Entry.{entry_runs, entry_closed}
-use Rattle.entries.specs.Evaluable.{entry_in, relations_in}
-use Rattle.entries.proofs.Entries.{entry_at, entry_in_lem}
+use Rattle.forms.proofs.Rules.{valid_table}
+use Rattle.entries.specs.Entries.{entry_in, relations_in, written_from}
+use Rattle.entries.proofs.Entries.{entry_at, entry_in_lem, all-written}
 use Rattle.evaluation.proofs.Passed.{EvaluationPassed}
 
 -- a form and its table
@@ -22,6 +24,14 @@ module _ {alphabet automaton form : List ℕ} {numbers : ℕ} (p : EvaluationPas
   pub form-entries : (table : List ℕ) → table ≡ table_of form → relations_in alphabet automaton table ≡ relations_of alphabet automaton form
   unfolding relations_of
   form-entries table t = rw (t, table_count_lem form p.valid.long)
+
+  -- the entries of all rules, worked out from the lowest on
+  pub form_written : (entry : List ℕ) → length entry ≡ numbers → (n : ℕ) → n ≡ table_count (table_of form) → (exit : List ℕ)
+      → exit ≡ written_from alphabet automaton (table_of form) 0 (n - 0) entry → exit ≡ lent_after 0 (relations_of alphabet automaton form) entry
+  form_written entry long n e exit written =
+      let v = valid_table alphabet form p.alphabet_passes p.form_passes in
+      written ∙ all-written alphabet automaton (table_of form) p.small v n e entry (omega (arith, p.room, table_count_lem form p.valid.long))
+      ∙ ap (λ (xs : List ℕ). lent_after 0 xs entry) (form-entries (table_of form) refl)
 
   module _ (entry relations : List ℕ) (written : relations ≡ lent_after 0 (relations_of alphabet automaton form) entry) where
     -- the entry of each rule

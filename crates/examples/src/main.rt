@@ -7,8 +7,6 @@ mod run;
 use crate::run::run_row;
 use rows::input::{echo, next_byte};
 use rows::row::read_row;
-use rows::show::put;
-use rows::words::{UNREADABLE, say};
 use std::io;
 use std::io::{Read, Write};
 
@@ -22,30 +20,29 @@ const MOST_BYTES: usize = 32768;
 fn run_behind(input: &mut impl Read, output: &mut impl Write) -> io::Result<()> {
     let mut bytes = [0u8; MOST_BYTES];
     let row = read_row(input, &mut bytes)?;
-    put(output, b':')?;
-    put(output, b' ')?;
-    run_row(output, row, &bytes)
+    write!(output, ": ")?;
+    match row {
+        Some(row) => run_row(output, row, &bytes),
+        None => writeln!(output, "unreadable"),
+    }
 }
 
 // Runs a line whose first byte was read.
 fn run_line(input: &mut impl Read, output: &mut impl Write, first: u8) -> io::Result<()> {
     match first {
-        b'\n' => put(output, b'\n'),
+        b'\n' => writeln!(output),
         b'#' => {
-            put(output, b'#')?;
+            write!(output, "#")?;
             echo(input, output, b'\n')?;
-            put(output, b'\n')
+            writeln!(output)
         }
         b':' => run_behind(input, output),
         _ => {
-            put(output, first)?;
-            if echo(input, output, b':')? == b':' {
+            output.write_all(&[first])?;
+            if echo(input, output, b':')? {
                 run_behind(input, output)
             } else {
-                put(output, b':')?;
-                put(output, b' ')?;
-                say(output, UNREADABLE)?;
-                put(output, b'\n')
+                writeln!(output, ": unreadable")
             }
         }
     }
@@ -54,14 +51,12 @@ fn run_line(input: &mut impl Read, output: &mut impl Write, first: u8) -> io::Re
 fn main(rt: HostRuntime) -> io::Result<()> {
     let mut input = rt.stdin();
     let mut output = rt.stdout();
-    let mut count = 0;
-    while count < MOST_LINES {
+    for _ in 0..MOST_LINES {
         let first = next_byte(&mut input)?;
         if first == 0 {
             return Ok(());
         }
         run_line(&mut input, &mut output, first)?;
-        count += 1;
     }
     Ok(())
 }

@@ -1,4 +1,6 @@
 // Running a row that was read: its call is lent a slice of bytes and one of numbers, which are printed behind the answer.
+ghost use Rattle.std.specs.Prelude.{◌<◌};
+
 use adding::add::add_transition;
 use blackboard::blackboard;
 use counted_marking::mark::mark;
@@ -7,180 +9,146 @@ use labelling::label::label;
 use lending::room;
 use making::make_form;
 use mark_line::line::line_of;
-use mark_line::show::show_line;
 use opening::read;
 use plain_walk::walk::walk;
 use practice_sheets::practice::practice;
 use row_answers::answers::{
-    say_label, say_length, say_marking, say_mask, say_reading, say_room, say_size, say_step,
+    Counted, Found, Read, Room, States, Written, say, say_marking, say_step,
 };
 use row_answers::certify::certify_into;
 use row_answers::rules::{rule_number, say_rules};
 use row_answers::tally::tally_of;
-use rows::lend::{BYTE, MOST_BYTES, MOST_NUMBERS, NUMBER, hold, within};
-use rows::names::{
-    ACCEPT, ADD, BLACKBOARD, CERTIFY, DECLINE, EVALUATE, LABEL, LINE, MAKE, MARK, PRACTICE, ROOM,
-    RULE, RULES, SIZE, UNFOLD, WALK, WRAP, fields_of,
-};
-use rows::row::{LOST, Row};
-use rows::show::{put, show_bytes, show_numbers};
-use rows::words;
-use rows::words::{UNREADABLE, say};
+use rows::lend::{Element, MOST_BYTES, MOST_NUMBERS, hold};
+use rows::names::Call;
+use rows::row::{Field, MOST_FIELDS, Row};
+use rows::show::show;
 use sizing::size::size;
 use std::io;
 use std::io::Write;
-use tallies::tally::{Step, Tally};
 use unfolding::unfold::unfold;
 use wrapping::wrap::wrap;
 
-// The bytes between two places, none where they do not lie in the slice.
-fn part(bytes: &[u8], from: usize, end: usize) -> &[u8] {
-    if from <= end {
-        if end <= bytes.len() {
-            return &bytes[from..end];
-        }
-    }
-    &bytes[0..0]
+// A row, and the slice that its byte strings stand in.
+#[derive(Clone, Copy, Debug, PartialEq, Eq)]
+struct Given<'a> {
+    row: Row,
+    strings: &'a [u8],
 }
 
-fn step(call: usize, tally: Tally, candidate: usize) -> Step {
-    match call {
-        ACCEPT => tally.accept(candidate),
-        DECLINE => tally.decline(candidate),
-        _ => tally.turn_away(candidate),
-    }
+// A slice that a call is lent: its name, and the length that the row asks for.
+#[derive(Clone, Copy, Debug, PartialEq, Eq)]
+struct Lent {
+    name: &'static str,
+    length: usize,
 }
 
-// The length of the slice of bytes that a call is lent, which is one of the fields of its row.
-fn room_of(call: usize, n: [usize; 9]) -> usize {
-    match call {
-        MAKE | CERTIFY | BLACKBOARD => n[3],
-        MARK => n[4],
-        UNFOLD | WALK | WRAP | PRACTICE => n[5],
-        _ => 0,
+impl<'a> Given<'a> {
+    // The bytes of a field, none where they do not lie in the slice.
+    fn string(&self, field: usize) -> &'a [u8]
+        requires { field < 8 }
+    {
+        let Field { start, end, .. } = self.row.fields[field];
+        self.strings.get(start..end).unwrap_or(&[])
     }
-}
 
-// The length of the slice of numbers.
-fn count_of(call: usize, n: [usize; 9]) -> usize {
-    match call {
-        CERTIFY | SIZE | UNFOLD => n[4],
-        MARK | EVALUATE | LABEL => n[5],
-        ADD => n[7],
-        _ => 0,
+    // The number of each field.
+    fn numbers(&self) -> [usize; MOST_FIELDS] {
+        self.row.fields.map(|field| field.number)
     }
-}
 
-// The name of the slice of bytes.
-fn name_of_bytes(call: usize) -> usize {
-    match call {
-        MAKE | MARK | CERTIFY => words::FORM,
-        UNFOLD => words::TREE,
-        WALK => words::MASKS,
-        WRAP | PRACTICE => words::SHEET,
-        BLACKBOARD => words::TABLE,
-        _ => words::NOTHING,
+    // The slice of bytes that the call is lent.
+    fn lent_bytes(&self) -> Option<Lent> {
+        let n = self.numbers();
+        let (name, length) = match self.row.call {
+            Call::Make | Call::Certify => ("form", n[3]),
+            Call::Blackboard => ("table", n[3]),
+            Call::Mark => ("form", n[4]),
+            Call::Unfold => ("tree", n[5]),
+            Call::Walk => ("masks", n[5]),
+            Call::Wrap | Call::Practice => ("sheet", n[5]),
+            _ => return None,
+        };
+        Some(Lent { name, length })
     }
-}
 
-// The name of the slice of numbers.
-fn name_of_numbers(call: usize) -> usize {
-    match call {
-        MARK | CERTIFY | EVALUATE | ADD => words::RELATIONS,
-        SIZE | LABEL | UNFOLD => words::COUNTS,
-        _ => words::NOTHING,
+    // The slice of numbers that the call is lent.
+    fn lent_numbers(&self) -> Option<Lent> {
+        let n = self.numbers();
+        let (name, length) = match self.row.call {
+            Call::Certify => ("relations", n[4]),
+            Call::Mark | Call::Evaluate => ("relations", n[5]),
+            Call::Add => ("relations", n[7]),
+            Call::Size | Call::Unfold => ("counts", n[4]),
+            Call::Label => ("counts", n[5]),
+            _ => return None,
+        };
+        Some(Lent { name, length })
     }
 }
 
 // The first x of a practice sheet, the largest number of 32 bits where the number is larger.
 fn first_of(number: usize) -> u32 {
-    within(number, u32::MAX as usize) as u32
+    u32::try_from(number).unwrap_or(u32::MAX)
 }
 
-// Makes a call on its fields and what it is lent, and prints its answer.
+// Makes the call on the fields of its row and what it is lent, and prints its answer.
 fn answer(
     output: &mut impl Write,
-    call: usize,
-    a: &[u8],
-    b: &[u8],
-    c: &[u8],
-    d: &[u8],
-    n: [usize; 9],
+    given: &Given,
     bytes: &mut [u8],
     numbers: &mut [u64],
 ) -> io::Result<()> {
-    match call {
-        ROOM => say_room(output, room(a)),
-        BLACKBOARD => say_mask(output, blackboard(a, bytes)),
-        MAKE => say_length(output, make_form(a, bytes)),
-        MARK => say_marking(output, mark(a, bytes, numbers, n[6], tally_of(b))),
-        CERTIFY => certify_into(output, a, bytes, numbers, n),
-        RULE => say_reading(output, read(a, b, rule_number(n[4]))),
-        RULES => say_rules(output, a, b),
-        EVALUATE => say_mask(output, evaluate(a, b, c, numbers)),
-        ADD => say_mask(output, add_transition(a, b, c, d, numbers)),
-        SIZE => say_size(output, size(a, b, numbers)),
-        LABEL => say_label(output, label(a, b, n[4] as u64, numbers)),
-        UNFOLD => say_length(output, unfold(a, b, numbers, bytes)),
-        WALK => say_mask(output, walk(a, b, c, bytes)),
-        WRAP => say_length(output, wrap(a, b, c, bytes)),
-        PRACTICE => say_length(output, practice(first_of(n[3]), n[4], a, bytes)),
-        _ => say_step(output, step(call, tally_of(a), n[3])),
+    let a = given.string(2);
+    let b = given.string(3);
+    let c = given.string(4);
+    let d = given.string(5);
+    let n = given.numbers();
+    match given.row.call {
+        Call::Line => say(output, line_of(a)),
+        Call::Room => say(output, room(a).map(Room)),
+        Call::Blackboard => say(output, blackboard(a, bytes).map(States)),
+        Call::Make => say(output, make_form(a, bytes).map(Written)),
+        Call::Mark => say_marking(output, &mark(a, bytes, numbers, n[6], tally_of(b))),
+        Call::Certify => certify_into(output, &given.row, a, bytes, numbers),
+        Call::Rule => say(output, read(a, b, rule_number(n[4])).map(Read)),
+        Call::Rules => say_rules(output, a, b),
+        Call::Evaluate => say(output, evaluate(a, b, c, numbers).map(States)),
+        Call::Add => say(output, add_transition(a, b, c, d, numbers).map(States)),
+        Call::Size => say(output, size(a, b, numbers).map(Counted)),
+        Call::Label => say(output, label(a, b, n[4] as u64, numbers).map(Found)),
+        Call::Unfold => say(output, unfold(a, b, numbers, bytes).map(Written)),
+        Call::Walk => say(output, walk(a, b, c, bytes).map(States)),
+        Call::Wrap => say(output, wrap(a, b, c, bytes).map(Written)),
+        Call::Practice => say(
+            output,
+            practice(first_of(n[3]), n[4], a, bytes).map(Written),
+        ),
+        Call::Accept => say_step(output, &tally_of(a).accept(n[3])),
+        Call::Decline => say_step(output, &tally_of(a).decline(n[3])),
+        Call::TurnAway => say_step(output, &tally_of(a).turn_away(n[3])),
     }
 }
 
-// Lends what a call asks for, its numbers holding at first those that the row gives.
-fn run_call(
-    output: &mut impl Write,
-    call: usize,
-    a: &[u8],
-    b: &[u8],
-    c: &[u8],
-    d: &[u8],
-    held: &[u8],
-    n: [usize; 9],
-) -> io::Result<()> {
-    let mut bytes = [BYTE; MOST_BYTES];
-    let mut numbers = [NUMBER; MOST_NUMBERS];
-    let room = within(room_of(call, n), MOST_BYTES);
-    let count = within(count_of(call, n), MOST_NUMBERS);
-    let lent_bytes = &mut bytes[0..room];
-    let lent_numbers = &mut numbers[0..count];
-    hold(held, lent_numbers);
-    answer(output, call, a, b, c, d, n, lent_bytes, lent_numbers)?;
-    show_bytes(output, name_of_bytes(call), lent_bytes)?;
-    show_numbers(output, name_of_numbers(call), lent_numbers)?;
-    put(output, b'\n')
-}
-
-fn run_fields(
-    output: &mut impl Write,
-    call: usize,
-    bytes: &[u8],
-    ends: [usize; 9],
-    n: [usize; 9],
-) -> io::Result<()> {
-    let a = part(bytes, ends[1], ends[2]);
-    if call == LINE {
-        return show_line(output, line_of(a));
+// Lends the call of a row what it asks for, the numbers of add holding at first those that the row gives, and ends the line.
+pub fn run_row(output: &mut impl Write, row: Row, strings: &[u8]) -> io::Result<()> {
+    let given = Given { row, strings };
+    let mut bytes = [u8::FILLING; MOST_BYTES];
+    let mut numbers = [u64::FILLING; MOST_NUMBERS];
+    let lent_bytes = given.lent_bytes();
+    let lent_numbers = given.lent_numbers();
+    let room = lent_bytes.map_or(0, |lent| lent.length).min(MOST_BYTES);
+    let count = lent_numbers.map_or(0, |lent| lent.length).min(MOST_NUMBERS);
+    let bytes = &mut bytes[..room];
+    let numbers = &mut numbers[..count];
+    if row.call == Call::Add {
+        hold(given.string(6), numbers);
     }
-    let b = part(bytes, ends[2], ends[3]);
-    let c = part(bytes, ends[3], ends[4]);
-    if call == ADD {
-        let d = part(bytes, ends[4], ends[5]);
-        let held = part(bytes, ends[5], ends[6]);
-        return run_call(output, call, a, b, c, d, held, n);
+    answer(output, &given, bytes, numbers)?;
+    if let Some(lent) = lent_bytes {
+        show(output, lent.name, bytes)?;
     }
-    run_call(output, call, a, b, c, &[], &[], n)
-}
-
-// Runs the call of a row, and ends the line.
-pub fn run_row(output: &mut impl Write, row: Row, bytes: &[u8]) -> io::Result<()> {
-    if row.fields != fields_of(row.call) || row.end == LOST {
-        say(output, UNREADABLE)?;
-        return put(output, b'\n');
+    if let Some(lent) = lent_numbers {
+        show(output, lent.name, numbers)?;
     }
-    let ends = row.ends;
-    let numbers = row.numbers;
-    run_fields(output, row.call, bytes, ends, numbers)
+    writeln!(output)
 }

@@ -30,10 +30,7 @@ pub fn form_length(terminals: usize, rules: usize) -> usize
 pub fn terminal_count(form: &[u8]) -> usize
     ensures { (result ≡ terminal_count form.now) × (result < 256) }
 {
-    if form.len() < RANKS_OFFSET {
-        return 0;
-    }
-    form[RANKS_OFFSET - 1] as usize
+    form.get(RANKS_OFFSET - 1).copied().unwrap_or(0) as usize
 }
 
 // The number of rules.

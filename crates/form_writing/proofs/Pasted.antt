@@ -3,11 +3,12 @@ use mathlib.Core.Path.{◌≡◌, sym, ap, ◌∙◌}
 use mathlib.Core.List.{List, ◌++◌}
 use Prim.Native.Nat.{ℕ, ◌+◌, ◌*◌, ◌-◌, ◌≤◌, ◌<◌}
 use native.Mathlib.Omega.{arith}
+use borrow.Rule.Slice.PartMut.{put_mid}
 use lib.ListN.{length, get_or, take, drop, length-append, length-drop, get_or-append}
 use lib.Seq.{length-take-le, get_or-take, get_or-drop, get_or-append-add, drop-drop}
-use Rattle.terms.specs.FormBytes.{ranks_offset, head_length, rule_length, head_front, head_bytes}
+use Rattle.terms.specs.FormBytes.{rule_length}
 use Rattle.form_bytes.specs.declared.rule.FormRule.{FormRule}
-use Rattle.form_writing.specs.Bytes.{pasted, bytes_of, Kept, RuleWritten, HeadWritten}
+use Rattle.form_writing.specs.Bytes.{pasted, bytes_of, Kept, RuleWritten}
 
 module _ (at : ℕ) (bytes l : List ℕ) (fits : at + length bytes ≤ length l) where
   -- its place in the parts of the new list
@@ -31,22 +32,11 @@ module _ (at : ℕ) (bytes l : List ℕ) (fits : at + length bytes ≤ length l)
         ∙ ap (λ m. get_or l m 0) b);
   }
 
-pub rule-written : (number : ℕ) (rule : FormRule) (written exit entry : List ℕ) → rule_length * number + rule_length ≤ length entry → written ≡ bytes_of rule
-    → exit ≡ pasted (rule_length * number) written entry → RuleWritten number rule exit entry
-rule-written number rule written exit entry fits is e =
-    rw (e, is)
+-- the bytes of a rule, put over as many bytes at its place
+pub rule-written : (number : ℕ) (rule : FormRule) (place size : ℕ) (written entry : List ℕ) → place ≡ rule_length * number → size ≡ rule_length
+    → rule_length * number + rule_length ≤ length entry → written ≡ bytes_of rule → RuleWritten number rule (put_mid place size entry written) entry
+rule-written number rule place size written entry at twelve fits is =
+    let e : put_mid place size entry written ≡ pasted (rule_length * number) (bytes_of rule) entry =
+    rw (at, twelve, is) (ap (λ (kept : List ℕ). take (rule_length * number) entry ++ (bytes_of rule ++ kept)) (drop-drop rule_length (rule_length * number) entry)) in
+    rw e
     record { bytes = pasted_at (rule_length * number) (bytes_of rule) entry fits; kept = pasted-keeps (rule_length * number) (bytes_of rule) entry fits }
-
--- what stands before the ranks, and then these, put in at the front one behind the other, are the bytes of a head
-pub head-written : (alphabet : List ℕ) (count start : ℕ) (written between exit entry : List ℕ) → head_length (length alphabet) ≤ length entry
-    → written ≡ head_front count start (length alphabet) → between ≡ pasted 0 written entry → exit ≡ pasted ranks_offset alphabet between → HeadWritten alphabet count start exit entry
-head-written alphabet count start written between exit entry fits is first next =
-    let n = length alphabet in
-    let head = head_bytes alphabet count start in
-    let front = pasted 0 (head_front count start n) entry in
-    let long : head_length n ≡ length head = omega arith in
-    let from_front : head_length n ≡ 0 + length head = omega arith in
-    let behind : drop (head_length n) front ≡ drop (0 + length head) entry =
-    sym (drop-drop n ranks_offset front) ∙ drop-drop n ranks_offset entry ∙ ap (λ m. drop m entry) from_front in
-    let e : exit ≡ pasted 0 head entry = rw (next, first, is) (ap (λ (kept : List ℕ). head ++ kept) behind) in
-    rw e record { bytes = λ k h. get_or-append head _ 0 k (omega arith); kept = rw long (pasted-keeps 0 head entry (omega arith)) }

@@ -2,19 +2,19 @@
 use mathlib.Core.Path.{◌≡◌, refl, sym, ◌∙◌}
 use mathlib.Core.Logic.{◌⊎◌, inl, inr}
 use mathlib.Core.List.{List}
-use Prim.Native.Nat.{ℕ, zero, suc, ◌+◌, ◌*◌, ◌-◌, ◌≤◌, ◌<◌}
+use Prim.Native.Nat.{ℕ, zero, suc, ◌+◌, ◌-◌, ◌≤◌, ◌<◌}
 use native.Mathlib.Nat.{eq-or-lt_of_le}
 use native.Mathlib.Omega.{arith}
-use lib.Dec.{T}
+use lib.Dec.{T, eqb}
 use lib.ListN.{length}
 use Rattle.terms.specs.Test.{tabulate}
 use Rattle.terms.specs.Grammar.{terminal_rank}
 use Rattle.terms.specs.Form.{Rule, whole, pierced, filled, composed, rule_at, Has, Slots, Fits, Valid}
-use Rattle.terms.specs.FormBytes.{head_length, rule_length, rule_count, terminal_count, table_of, table_count, rule_byte, slot_of, rule_of_kind, table_rule, table_rules, rule_fits, form_refusal}
+use Rattle.terms.specs.FormBytes.{head_length, rule_count, start_of, terminal_count, table_of, table_count, rule_byte, slot_of, rule_of_kind, table_rule, table_rules, kind_fits, rule_fits, form_refusal}
 use Rattle.terms.specs.Check.{alphabet_refusal}
 use Rattle.terms.specs.Calls.{opening_refusal}
 use Rattle.terms.proofs.Refusal.{none_before}
-use Rattle.terms.proofs.Test.{is_true, of_true, every_at, every_of}
+use Rattle.terms.proofs.Test.{is_true, of_true, both_1, every_at, every_of}
 use Rattle.terms.proofs.Tabulate.{length-tabulate}
 use Rattle.terms.proofs.Sheet.Passed.{alphabet_passed}
 use Rattle.terms.proofs.Form.Bytes.{rank_le, count-rules, rule_at_lem, rules-valid, table_long, table_count_lem, FormPassed, form_passed}
@@ -33,6 +33,14 @@ last_kind zero f n h slot l = absurd (omega arith)
 last_kind (suc zero) f n h slot l = absurd (omega arith)
 last_kind (suc (suc zero)) f n h slot l = absurd (omega arith)
 last_kind (suc (suc (suc kind))) f n h slot l = refl
+
+-- a kind that fits is at most 3
+kind_fits_low : (table : List ℕ) (i kind t f n h : ℕ) → T (kind_fits table i kind t f n h) → kind ≤ 3
+kind_fits_low table i zero t f n h p = omega arith
+kind_fits_low table i (suc zero) t f n h p = omega arith
+kind_fits_low table i (suc (suc zero)) t f n h p = omega arith
+kind_fits_low table i (suc (suc (suc zero))) t f n h p = omega arith
+kind_fits_low table i (suc (suc (suc (suc kind)))) t f n h p = absurd p
 
 -- the table of a form that is not refused
 module _ (alphabet table : List ℕ) (v : ValidTable alphabet table) where
@@ -64,8 +72,9 @@ module _ (alphabet table : List ℕ) (v : ValidTable alphabet table) where
     abbrev rules : List Rule
     rules = table_rules alphabet table
 
-    pub rule-whole : rule_length * i + rule_length ≤ length table
-    rule-whole = omega (arith, v.whole)
+    pub kind-low : rule_byte table i 0 ≤ 3
+    unfolding rule_fits
+    kind-low = kind_fits_low table i (rule_byte table i 0) (length alphabet) f n h (both_1 (eqb (rule_byte table i 3) 0) _ (each_fits i l))
 
     pub in_rules : i < length (table_rules alphabet table)
     in_rules = omega (arith, rules-counted)
@@ -148,3 +157,17 @@ unfolding opening_refusal
 opening_passed alphabet form e =
     let (a, r) = none_before (alphabet_refusal alphabet) _ e in
     (a, (none_before (form_refusal alphabet form) 0 r).0)
+
+-- a form that opens: its head is whole, its table is valid and its start is a rule of the table
+module _ (alphabet form : List ℕ) (e : 0 ≡ opening_refusal alphabet form) where
+  pub opens : (alphabet_refusal alphabet ≡ 0) × (form_refusal alphabet form ≡ 0)
+  opens = opening_passed alphabet form (sym e)
+
+  pub opened-head : head_length (terminal_count form) ≤ length form
+  opened-head = head-long alphabet form opens.0 opens.1
+
+  pub opened-table : (table : List ℕ) → table ≡ table_of form → ValidTable alphabet table
+  opened-table table t = rw t (valid_table alphabet form opens.0 opens.1)
+
+  pub opened-start : (table : List ℕ) → table ≡ table_of form → (start : ℕ) → start ≡ start_of form → start < table_count table
+  opened-start table t start s = rw (t, s) (omega (arith, (passed alphabet form opens.0 opens.1).start.below, rules_in_table alphabet form opens.0 opens.1))

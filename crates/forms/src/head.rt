@@ -1,6 +1,6 @@
-// The head of a form: what is asked of it for any bytes, and its alphabet beside the one that is given.
+// The head of a form: what is asked of it for any bytes.
 ghost use Rattle.std.specs.Prelude.{◌≡◌};
-ghost use Rattle.terms.specs.FormBytes.{head_fits, same_alphabet};
+ghost use Rattle.terms.specs.FormBytes.{head_fits};
 
 use checks::alphabet::check_alphabet;
 use form_bytes::layout;
@@ -17,31 +17,8 @@ pub fn head_fits(form: &[u8]) -> bool
         return false;
     }
     let count = layout::rule_count(form);
-    if count < 1 {
-        return false;
-    }
-    if MOST_RULES < count {
-        return false;
-    }
-    if form.len() != layout::form_length(terminals, count) {
-        return false;
-    }
-    check_alphabet(layout::alphabet_of(form)) == 0
-}
-
-// Two alphabets are the same: as many terminals, and each of the same rank.
-pub fn same_alphabet(given: &[u8], carried: &[u8]) -> bool
-    ensures { result ≡ same_alphabet given.now carried.now }
-{
-    if given.len() != carried.len() {
-        return false;
-    }
-    let mut i = given.len();
-    while 0 < i {
-        i -= 1;
-        if given[i] != carried[i] {
-            return false;
-        }
-    }
-    true
+    1 <= count
+        && count <= MOST_RULES
+        && form.len() == layout::form_length(terminals, count)
+        && check_alphabet(layout::alphabet_of(form)).is_ok()
 }

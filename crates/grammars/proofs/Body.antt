@@ -1,15 +1,16 @@
 -- Rules one behind the other: what stands at a place of a rules body.
-use mathlib.Core.Path.{◌≡◌, refl, sym, ◌∙◌, ap}
+use mathlib.Core.Path.{◌≡◌, refl, ◌∙◌, ap}
 use mathlib.Core.Bool.{true, false}
 use mathlib.Core.List.{List, [], ◌∷◌}
+use Rattle.std.proofs.Common.{Some, None}
 use Prim.Native.Nat.{ℕ, zero, suc, ◌+◌, ◌-◌, ◌<◌, ◌≤◌}
 use native.Mathlib.Omega.{arith}
-use native.Mathlib.Decide.{dec_lt, dec_le}
+use native.Mathlib.Decide.{dec_le}
 use borrow.Author.Tests.{le-leb, lt-leb}
 use lib.Dec.{leb}
 use lib.ListN.{length, get_or, take, drop, length-drop, drop_of_length-le, get_or-eq_default}
-use lib.Seq.{drop-cons, drop-drop, length-take-le}
-use Rattle.terms.specs.Grammar.{rule_at, node_count}
+use lib.Seq.{drop-cons, drop-drop, length-take-le, take-length}
+use Rattle.terms.specs.Grammar.{node_count}
 use Rattle.terms.specs.Sheet.{RulesBody, with_rule, read_rules, rules_body}
 use Rattle.grammars.specs.Cursor.{span_at, rule_in}
 use Rattle.grammars.specs.Rules.{body_counts}
@@ -99,39 +100,6 @@ module _ (body : List ℕ) (at : ℕ) where
           let k : length body ≤ suc at = omega arith in
           rw (drop-cons body at 0 h, drop_of_length-le body k) (body_one _)
 
-  -- where a rule stands, its nodes are all there, and what follows are the rules behind it
-  opened : 0 < length (rules_body (drop at body)).rules
-      → (span.end ≤ length body) × ((rules_body (drop at body)).rules ≡ rule_in body span ∷ (rules_body (drop span.end body)).rules)
-  opened h = go (dec_le span.end (length body)) (dec_lt at (length body))
-    where
-      go : Dec (span.end ≤ length body) → Dec (at < length body)
-          → (span.end ≤ length body) × ((rules_body (drop at body)).rules ≡ rule_in body span ∷ (rules_body (drop span.end body)).rules)
-      go (yes a) b = (a, rw (whole a))
-      go (no a) (yes b) = absurd (omega (arith, rw (cut b (omega arith)) at h))
-      go (no a) (no b) = absurd (omega (arith, rw (none-there (omega arith)) at h))
-
--- rule i of a body stands whole in a span at a place, and the rules behind it follow
-pub record Standing (body : List ℕ) (at i : ℕ) (span : Span) : Type 0 where
-  pub starts : at < span.start
-  pub ends : span.start ≤ span.end
-  pub whole : span.end ≤ length body
-  pub rule : rule_at (rules_body body).rules i ≡ rule_in body span
-  pub next : drop (suc i) (rules_body body).rules ≡ (rules_body (drop span.end body)).rules
-
-module _ (body : List ℕ) (at i : ℕ) (rest : drop i (rules_body body).rules ≡ (rules_body (drop at body)).rules) (more : i < length (rules_body body).rules) where
-  there : Standing body at i (span_at body at)
-  there =
-      let rules = (rules_body body).rules in
-      let o = opened body at (rw (← rest, length-drop) (omega arith)) in
-      let e = sym (drop-cons rules i (record { rank = 0; nodes = [] }) more) ∙ rest ∙ o.1 in
-      record { starts = omega arith; ends = omega arith; whole = o.0; rule = cc; next = cc }
-
-  pub inside-body : at < length body
-  inside-body = omega (arith, there.starts, there.ends, there.whole)
-
-  pub standing : {span : Span} → span ≡ span_at body at → Standing body at i span
-  standing e = rw e there
-
 -- the rules before a place, n of them with m nodes: what is behind it adds what there is more
 pub record Passed (body : List ℕ) (at n m : ℕ) : Type 0 where
   pub within : at ≤ length body
@@ -159,7 +127,7 @@ module _ (body : List ℕ) (at n m : ℕ) (p : Passed body at n m) where
       }
 
   -- all rules
-  pub all_passed : length body ≤ at → record { rules = n; nodes = m } ≡ body_counts (rules_body body)
+  pub all_passed : length body ≤ at → Some (record { rules = n; nodes = m }) ≡ body_counts (rules_body body)
   all_passed h =
       let e = none-there body at h in
       let r : length (rules_body body).rules ≡ n = p.rules ∙ rw e (omega arith) in
@@ -167,5 +135,27 @@ module _ (body : List ℕ) (at n m : ℕ) (p : Passed body at n m) where
       rw (p.ends, e, r, k)
 
   -- a rule that is cut off
-  pub cut_short : {span : Span} → span ≡ span_at body at → at < length body → length body < span.end → record { rules = 0; nodes = 0 } ≡ body_counts (rules_body body)
+  pub cut_short : {span : Span} → span ≡ span_at body at → at < length body → length body < span.end → None ≡ body_counts (rules_body body)
   cut_short e h l = rw (p.ends, cut body at h (rw e at l))
+
+-- the first rule of a body, as bytes read it
+module _ (body : List ℕ) where
+  pub no_head : length body < 2 → (rules_body body).rules ≡ []
+  no_head h = go body h
+    where
+      go : (bs : List ℕ) → length bs < 2 → (rules_body bs).rules ≡ []
+      go [] h = ap (λ (b : RulesBody). b.rules) body-none
+      go (b ∷ []) h = ap (λ (b : RulesBody). b.rules) (body_one b)
+      go (b ∷ c ∷ bs) h = absurd (omega arith)
+
+  module _ (head : 2 ≤ length body) {n : ℕ} (count : n ≡ get_or body 1 0) where
+    pub nodes_lack : length body - 2 < n → (rules_body body).rules ≡ []
+    nodes_lack h = ap (λ (b : RulesBody). b.rules) (cut body 0 (omega arith) (omega arith))
+
+    pub first_rule : n ≤ length body - 2 → (rules_body body).rules ≡ record { rank = get_or body 0 0; nodes = take n (drop 2 body) } ∷ (rules_body (drop n (drop 2 body))).rules
+    first_rule h =
+        let e = ap (λ (b : RulesBody). b.rules) (whole body 0 (omega arith)) in
+        rw (count, drop-drop) (rw (span_count body 0 refl) at e)
+
+  pub behind_head : take (length body - 2) (drop 2 body) ≡ drop 2 body
+  behind_head = rw (← length-drop 2 body) (take-length (drop 2 body))

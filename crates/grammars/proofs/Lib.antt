@@ -3,3 +3,4 @@ pub mod Body
 pub mod Rule
 pub mod Reading
 pub mod EachRule
+pub mod Turns

@@ -16,10 +16,9 @@ use Rattle.terms.specs.Form.{share, side_bound}
 use Rattle.terms.specs.Check.{highest_rank, is_one, rule_refusal}
 use Rattle.terms.proofs.Test.{both_0, both_1, is_true, of_true}
 use Rattle.nodes.specs.Nodes.{ruled_by, counting}
-use Rattle.nodes.specs.declared.wholes.Wholes.{Wholes}
-use Rattle.grammars.specs.Rules.{seen_from, rule_answer, rule_reading}
-use Rattle.grammars.specs.declared.rules.RuleAnswer.{RuleAnswer}
-use Rattle.grammars.specs.declared.rules.RuleAnswer.TheVariants as checked
+use Rattle.std.proofs.Common.{Option}
+use Rattle.grammars.specs.Rules.{seen_from, rule_reading}
+use Rattle.terms.specs.Answer.{Answer, refused, answered, answer}
 use Rattle.terms.proofs.Scan.{drop-back, every_cong, all_part}
 
 -- the rows 8 to 11 of the table, by their tests
@@ -32,8 +31,8 @@ rows_of alphabet rules i rule = rows (ltb highest_rank rule.rank) (not (all_allo
     (not (is_one (wholes (rank_in alphabet rules) rule.nodes))) (not (every rule.rank (λ j. leb (sum_over (is_parameter j) rule.nodes) 1)))
 
 -- the answer to a rule, by its rows and the sum over its nodes
-abbrev answer_of : List ℕ → List Rule → ℕ → Rule → RuleAnswer
-answer_of alphabet rules i rule = rule_answer (rows_of alphabet rules i rule) (side_bound rules rule.nodes)
+abbrev answer_from : List ℕ → List Rule → ℕ → Rule → Answer ℕ
+answer_from alphabet rules i rule = answer (rows_of alphabet rules i rule) (side_bound rules rule.nodes)
 
 -- where all nodes are allowed, so are the first one and those behind it
 first-allowed : (alphabet : List ℕ) (i n m : ℕ) (nodes : List ℕ) → all_allowed alphabet i n (m ∷ nodes) ≡ true
@@ -72,11 +71,11 @@ module _ (alphabet : List ℕ) (rules others : List Rule) (i : ℕ) (lower : (k 
       rw (same-share n (name m) here, same_side n nodes behind)
 
   -- where row 8 or 9 holds, neither row 10 nor the sum matters
-  same_answer : (rule : Rule) → answer_of alphabet rules i rule ≡ answer_of alphabet others i rule
+  same_answer : (rule : Rule) → answer_from alphabet rules i rule ≡ answer_from alphabet others i rule
   same_answer rule = go (ltb highest_rank rule.rank) (all_allowed alphabet i rule.rank rule.nodes) refl refl
     where
       go : (high fine : Bool) → ltb highest_rank rule.rank ≡ high → all_allowed alphabet i rule.rank rule.nodes ≡ fine
-          → answer_of alphabet rules i rule ≡ answer_of alphabet others i rule
+          → answer_from alphabet rules i rule ≡ answer_from alphabet others i rule
       go true fine e h = rw e
       go false true e h = rw (same-wholes rule.rank rule.nodes h, same_side rule.rank rule.nodes h)
       go false false e h = rw (e, h)
@@ -84,16 +83,16 @@ module _ (alphabet : List ℕ) (rules others : List Rule) (i : ℕ) (lower : (k 
   -- rule i is answered in the one as it is in the other
   pub same-reading : rule_at rules i ≡ rule_at others i → rule_reading alphabet rules i ≡ rule_reading alphabet others i
   unfolding rule_refusal
-  same-reading e = ap (answer_of alphabet rules i) e ∙ same_answer (rule_at others i)
+  same-reading e = ap (answer_from alphabet rules i) e ∙ same_answer (rule_at others i)
 
 -- what the answer to a rule says
-pub answer-refuses : (n takes : ℕ) {k : ℕ} → checked.Refused k ≡ rule_answer n takes → (k ≡ n) × (n ≡ 0 → ⊥)
-answer-refuses zero takes e = absurd (let z : ◌≡◌ {A = ℕ} 0 1 = cc in omega arith)
+pub answer-refuses : (n takes : ℕ) {k : ℕ} → refused k ≡ answer n takes → (k ≡ n) × (n ≡ 0 → ⊥)
+answer-refuses zero takes e = absurd (cc)
 answer-refuses (suc n) takes e = (cc, λ z. omega arith)
 
-pub answer_takes : (n takes : ℕ) {k : ℕ} → checked.Takes k ≡ rule_answer n takes → (n ≡ 0) × (k ≡ takes)
+pub answer_takes : (n takes : ℕ) {k : ℕ} → answered k ≡ answer n takes → (n ≡ 0) × (k ≡ takes)
 answer_takes zero takes e = (refl, cc)
-answer_takes (suc n) takes e = absurd (let z : ◌≡◌ {A = ℕ} 0 1 = cc in omega arith)
+answer_takes (suc n) takes e = absurd (cc)
 
 -- a share depends on the rank of what is named alone
 share-rank : (alphabet : List ℕ) (rules : List Rule) (x : Name) → share (λ _. name_rank alphabet rules x) x ≡ share (rule_rank rules) x
@@ -110,55 +109,53 @@ module _ (alphabet ranks : List ℕ) (i rank : ℕ) (nodes : List ℕ) (room : i
   pub rank_seen : (k : ℕ) → k < i → rule_rank (seen_from ranks i rank nodes) k ≡ rule_rank (ruled_by ranks) k
   rank_seen k h = ap (λ (r : Rule). r.rank) (get_or-set_other (ruled_by ranks) i k _ _ (λ e. omega arith))
 
-  seen_answer : rule_reading alphabet (seen_from ranks i rank nodes) i ≡ answer_of alphabet (seen_from ranks i rank nodes) i (record { rank = rank; nodes = nodes })
+  seen_answer : rule_reading alphabet (seen_from ranks i rank nodes) i ≡ answer_from alphabet (seen_from ranks i rank nodes) i (record { rank = rank; nodes = nodes })
   unfolding rule_refusal
-  seen_answer = ap (answer_of alphabet (seen_from ranks i rank nodes) i) rule_seen
+  seen_answer = ap (answer_from alphabet (seen_from ranks i rank nodes) i) rule_seen
 
-  pub high_refused : highest_rank < rank → rule_reading alphabet (seen_from ranks i rank nodes) i ≡ checked.Refused 8
+  pub high_refused : highest_rank < rank → rule_reading alphabet (seen_from ranks i rank nodes) i ≡ refused 8
   high_refused h = seen_answer ∙ rw (lt-ltb highest_rank rank h)
 
 -- what the nodes from a place on say: each is allowed, the trees that they make, how often each parameter occurs, and how many rules of a form they take
-pub record Scanned (alphabet ranks : List ℕ) (i rank : ℕ) (nodes : List ℕ) (behind : Wholes) (counts : List ℕ) (takes left : ℕ) : Type 0 where
+pub record Scanned (alphabet ranks : List ℕ) (i rank : ℕ) (nodes : List ℕ) (behind : Option ℕ) (counts : List ℕ) (takes left : ℕ) : Type 0 where
   pub within : left ≤ length nodes
   pub fine : all_allowed alphabet i rank (drop left nodes) ≡ true
   pub trees : counting behind ≡ wholes (rank_in alphabet (seen_from ranks i rank nodes)) (drop left nodes)
-  pub size : length counts ≡ highest_rank
   pub counted : (j : ℕ) → get_or counts j 0 ≡ sum_over (is_parameter j) (drop left nodes)
   pub sum : takes ≡ side_bound (seen_from ranks i rank nodes) (drop left nodes)
   pub small : takes + 1024 * left ≤ 1024 * length nodes
 
 -- the pass
-module _ (alphabet ranks : List ℕ) (i rank : ℕ) (nodes : List ℕ) (room : i < length ranks) where
-  pub none-scanned : (counts : List ℕ) → length counts ≡ highest_rank → ((j : ℕ) → get_or counts j 0 ≡ 0)
-      → (behind : Wholes) → counting behind ≡ exactly 0 → Scanned alphabet ranks i rank nodes behind counts 0 (length nodes)
+module _ {alphabet ranks : List ℕ} {i rank : ℕ} {nodes : List ℕ} (room : i < length ranks) where
+  pub none-scanned : {counts : List ℕ} → ((j : ℕ) → get_or counts j 0 ≡ 0) → {behind : Option ℕ} → counting behind ≡ exactly 0
+      → Scanned alphabet ranks i rank nodes behind counts 0 (length nodes)
   unfolding all wholes
-  none-scanned counts size zeros behind none = record {
+  none-scanned zeros none = record {
     within = omega arith;
     fine = rw drop-length;
     trees = rw drop-length none;
-    size = size;
     counted = λ j. rw drop-length (zeros j);
     sum = rw drop-length refl;
     small = omega arith;
   }
 
-  module _ (low : rank ≤ highest_rank) (behind : Wholes) (counts : List ℕ) (takes left : ℕ) (s : Scanned alphabet ranks i rank nodes behind counts takes left) where
+  module _ (low : rank ≤ highest_rank) {behind : Option ℕ} {counts : List ℕ} {takes left : ℕ} (s : Scanned alphabet ranks i rank nodes behind counts takes left) where
     -- the next node is not allowed
-    pub unknown-refused : 0 < left → (x : Name) → x ≡ name (get_or nodes (left - 1) 0) → allowed alphabet i rank x ≡ false
-        → rule_reading alphabet (seen_from ranks i rank nodes) i ≡ checked.Refused 9
+    pub unknown-refused : 0 < left → {x : Name} → x ≡ name (get_or nodes (left - 1) 0) → allowed alphabet i rank x ≡ false
+        → rule_reading alphabet (seen_from ranks i rank nodes) i ≡ refused 9
     unfolding all
-    unknown-refused h x e out =
+    unknown-refused h {x} e out =
         let d = drop-back nodes left 0 h s.within in
         let f = all_part (λ m. allowed alphabet i rank (name m)) nodes (left - 1) (rw (d, ← e, out)) in
         seen_answer alphabet ranks i rank nodes room ∙ rw (le-ltb highest_rank rank low, f)
 
     -- the next node is allowed, and counted
-    pub node-scanned : 0 < left → (x : Name) → x ≡ name (get_or nodes (left - 1) 0) → allowed alphabet i rank x ≡ true
-        → (r : ℕ) → r ≡ name_rank alphabet (ruled_by ranks) x → (behind' : Wholes) → counting behind' ≡ taking r (counting behind)
-        → (counts' : List ℕ) → length counts' ≡ highest_rank → ((j : ℕ) → get_or counts' j 0 ≡ is_parameter j x + get_or counts j 0)
-        → (more : ℕ) → more ≡ share (λ _. r) x → more < 1024 → Scanned alphabet ranks i rank nodes behind' counts' (takes + more) (left - 1)
+    pub node-scanned : 0 < left → {x : Name} → x ≡ name (get_or nodes (left - 1) 0) → allowed alphabet i rank x ≡ true
+        → {r : ℕ} → r ≡ name_rank alphabet (ruled_by ranks) x → {behind' : Option ℕ} → counting behind' ≡ taking r (counting behind)
+        → {counts' : List ℕ} → ((j : ℕ) → get_or counts' j 0 ≡ is_parameter j x + get_or counts j 0)
+        → {more : ℕ} → more ≡ share (λ _. r) x → more < 1024 → Scanned alphabet ranks i rank nodes behind' counts' (takes + more) (left - 1)
     unfolding all wholes rank_in
-    node-scanned h x e in' r ranked behind' taken counts' size counted more shared low =
+    node-scanned h {x} e in' {r} ranked {behind'} taken {counts'} counted {more} shared low =
         let d = drop-back nodes left 0 h s.within in
         let seen = seen_from ranks i rank nodes in
         let same = same_rank alphabet seen (ruled_by ranks) i (rank_seen alphabet ranks i rank nodes room) rank x in' in
@@ -167,17 +164,16 @@ module _ (alphabet ranks : List ℕ) (i rank : ℕ) (nodes : List ℕ) (room : i
           within = omega (arith, s.within);
           fine = rw (d, ← e, in') s.fine;
           trees = rw (d, ← e, same, ← ranked, ← s.trees) taken;
-          size = size;
           counted = λ j. rw (d, ← e, ← s.counted j) (counted j);
           sum = rw (d, ← e, ← own, ← s.sum) (omega arith);
           small = omega (arith, s.small);
         }
 
-  -- where all nodes are scanned, what was gathered decides the rows 10 and 11, and is the sum
-  pub all-scanned : rank ≤ highest_rank → (behind : Wholes) (counts : List ℕ) (takes left : ℕ) → left ≤ 0 → Scanned alphabet ranks i rank nodes behind counts takes left
-      → rule_reading alphabet (seen_from ranks i rank nodes) i
-      ≡ rule_answer (rows false false (not (is_one (counting behind))) (not (every rank (λ j. leb (get_or counts j 0) 1)))) takes
-  all-scanned low behind counts takes zero h s =
-      let c = every_cong rank (λ j. leb (sum_over (is_parameter j) nodes) 1) (λ j. leb (get_or counts j 0) 1) (λ j. ap (λ n. leb n 1) (sym (s.counted j))) in
-      seen_answer alphabet ranks i rank nodes room ∙ rw (le-ltb highest_rank rank low, s.fine, ← s.trees, c, ← s.sum)
-  all-scanned low behind counts takes (suc left) h s = absurd (omega arith)
+    -- where all nodes are scanned, what was gathered decides the rows 10 and 11, and is the sum
+    pub all-scanned : left ≤ 0 → {one once : Bool} → one ≡ is_one (counting behind) → once ≡ every rank (λ j. leb (get_or counts j 0) 1)
+        → rule_reading alphabet (seen_from ranks i rank nodes) i ≡ answer (rows false false (not one) (not once)) takes
+    all-scanned h is-one is-once =
+        let z : left ≡ 0 = omega arith in
+        let s = rw z at s in
+        let c = every_cong rank (λ j. leb (sum_over (is_parameter j) nodes) 1) (λ j. leb (get_or counts j 0) 1) (λ j. ap (λ n. leb n 1) (sym (s.counted j))) in
+        rw (is-one, is-once) (seen_answer alphabet ranks i rank nodes room ∙ rw (le-ltb highest_rank rank low, s.fine, ← s.trees, c, ← s.sum))

@@ -1,5 +1,4 @@
 // The terminal at a position of a form's tree.
 #![tactic(auto)]
 
-pub mod answer;
 pub mod label;

@@ -1,8 +1,9 @@
 -- Relations by their lanes: one lane more, the sets of a lane, and state 0 alone in each.
-use mathlib.Core.Path.{◌≡◌, ap, sym, ◌∙◌}
+use mathlib.Core.Path.{◌≡◌, refl, ap, sym, ◌∙◌}
 use mathlib.Core.List.{List}
-use Prim.Native.Nat.{ℕ, ◌+◌, ◌-◌, ◌*◌, ◌/◌, ◌%◌, ◌^◌, ◌<◌}
-use native.Mathlib.Nat.{zero-div}
+use Prim.Native.Nat.{ℕ, zero, suc, ◌+◌, ◌-◌, ◌*◌, ◌/◌, ◌%◌, ◌^◌, ◌<◌}
+use native.Mathlib.Nat.{zero-div, div-one}
+use Rattle.std.specs.Int.{w64, to_le_bytes}
 use native.Mathlib.Omega.{arith}
 use borrow.Author.Count.{below_more}
 use lib.Arith.{digits_lt}
@@ -64,3 +65,16 @@ lane_has p xs j s h = sym (ap (λ (x : ℕ). has x s) (lane_at p xs j) ∙ has-l
 pub lane_zero : (p : ℕ) → p < 8 → lane 0x0101_0101_0101_0101 p ≡ 1
 unfolding lane every
 lane_zero p h = eqb→eq _ _ (every_at 8 (λ k. eqb (lane 0x0101_0101_0101_0101 k) 1) tt p h)
+
+-- the bytes of a number, the low one first, are its lanes
+pub bytes-lane : (x p : ℕ) → p < 8 → get_or (to_le_bytes w64 x) p 0 ≡ lane x p
+unfolding lane
+bytes-lane x zero h = ap (λ (y : ℕ). y % 256) (sym (div-one x))
+bytes-lane x (suc zero) h = refl
+bytes-lane x (suc (suc zero)) h = refl
+bytes-lane x (suc (suc (suc zero))) h = refl
+bytes-lane x (suc (suc (suc (suc zero)))) h = refl
+bytes-lane x (suc (suc (suc (suc (suc zero))))) h = refl
+bytes-lane x (suc (suc (suc (suc (suc (suc zero)))))) h = refl
+bytes-lane x (suc (suc (suc (suc (suc (suc (suc zero))))))) h = refl
+bytes-lane x (suc (suc (suc (suc (suc (suc (suc (suc p)))))))) h = absurd (omega arith)

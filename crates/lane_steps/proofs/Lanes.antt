@@ -5,19 +5,17 @@ use Prim.Native.Nat.{ℕ, zero, suc, ◌+◌, ◌*◌, ◌/◌, ◌%◌, ◌^◌
 use native.Mathlib.Nat.{zero-div, mod-eq_of_lt}
 use native.Mathlib.Omega.{arith}
 use lib.Dec.{eqb}
-use lib.ListN.{get_or}
 use lib.Pow.{pow-lt}
 use lib.Bits.{bit_and, bit_or, or_shr, or_mod}
 use borrow.Author.Tests.{ne_eqb}
-use Rattle.terms.specs.Test.{tabulate}
 use Rattle.terms.specs.Automaton.{has, set_of}
 use Rattle.terms.specs.Relation.{matrix, related}
 use Rattle.terms.proofs.Automaton.Bits.{has-set, set-whole}
 use Rattle.terms.proofs.Automaton.Relation.{matrix_lt, matrix-has, matrix_cong}
-use Rattle.relations.specs.Spread.{Spreads, spread}
+use Rattle.relations.specs.Spread.{spread}
 use Rattle.relations.proofs.Laws.{has_shr, has-low}
 use Rattle.relations.proofs.Matrix.{set-bits, and_matrix, row_has}
-use Rattle.relations.proofs.Lanes.{lanes, table_times, all-spreads}
+use Rattle.relations.proofs.Lanes.{spread-times}
 use Rattle.blackboard_terms.specs.Step.{lane}
 
 lane_has : (x p q : ℕ) → q < 8 → has (lane x p) q ≡ related x p q
@@ -53,16 +51,13 @@ ones_and x s g hs =
 
 -- the 1 of each lane, moved to the state t of that lane
 pub ones_shl : (g : ℕ → Bool) (t p : ℕ) → t < 8 → p < 8 → lane (ones g * 2 ^ t % 2 ^ 64) p ≡ cond (g p) (2 ^ t) 0
-unfolding Spreads spread matrix set_of
+unfolding spread matrix set_of
 ones_shl g t p ht hp =
     let s = set_of 8 g in
-    let table = tabulate 256 (lanes 8) in
-    let spreads = all-spreads table refl in
-    let as-spread : ones g ≡ get_or table (s % 256) 0 =
+    let as-spread : ones g ≡ spread (s % 256) =
     matrix_cong (λ p q. eqb q 0 && g p) (λ p q. has (s % 256) p && eqb q 0)
-    (λ p q hp hq. and_comm (eqb q 0) (g p) ∙ ap (λ (b : Bool). b && eqb q 0) (sym (has-low s 8 p hp ∙ has-set 8 g p hp)))
-    ∙ sym (spreads (s % 256) (omega arith)) in
-    let moved : ones g * 2 ^ t ≡ matrix (λ p q. has s p && has (2 ^ t) q) = ap₂ (λ (x y : ℕ). x * y) as-spread (sym (mod-eq_of_lt small)) ∙ table_times table spreads s (2 ^ t) in
+    (λ p q hp hq. and_comm (eqb q 0) (g p) ∙ ap (λ (b : Bool). b && eqb q 0) (sym (has-low s 8 p hp ∙ has-set 8 g p hp))) in
+    let moved : ones g * 2 ^ t ≡ matrix (λ p q. has s p && has (2 ^ t) q) = ap₂ (λ (x y : ℕ). x * y) as-spread (sym (mod-eq_of_lt small)) ∙ spread-times s (2 ^ t) in
     ap (λ (x : ℕ). lane (x % 2 ^ 64) p) moved ∙ ap (λ (x : ℕ). lane x p) (mod-eq_of_lt (matrix_lt (λ p q. has s p && has (2 ^ t) q)))
     ∙ lane-matrix (λ p q. has s p && has (2 ^ t) q) p hp ∙ ap (λ (b : Bool). set_of 8 (λ q. b && has (2 ^ t) q)) (has-set 8 g p hp) ∙ go (g p)
   where

@@ -8,25 +8,24 @@ ghost use Rattle.terms.specs.Calls.{room_asked};
 ghost use Rattle.lending.specs.Room.{answer_of_room};
 
 use form_bytes::layout::form_length;
-use sheets::sheet::{Reading, read_sheet};
+use sheets::sheet::read_sheet;
+use terms::refusals::Refusal;
 
-// What is answered to how much a sheet asks for.
-#[derive(Clone, Copy)]
-pub enum RoomAnswer {
-    Refused(u8),
-    // bytes for the form, and numbers for its relations
-    Asked(usize, usize),
+// What a sheet asks to be lent: bytes for the form, and numbers for its relations.
+#[derive(Clone, Copy, Debug, PartialEq, Eq)]
+pub struct Asked {
+    pub bytes: usize,
+    pub numbers: usize,
 }
 
 // What is refused of a sheet, or how many bytes form making and marking ask for, and how many numbers marking asks for.
-pub fn room(sheet: &[u8]) -> RoomAnswer
+#[tactic(auto, using(terms::proofs::InTurn::in_turn))]
+pub fn room(sheet: &[u8]) -> Result<Asked, Refusal>
     ensures { answer_of_room result ≡ answer (sheet_refusal sheet.now) (room_asked sheet.now) }
 {
-    match read_sheet(sheet) {
-        Reading::Refused(n) => RoomAnswer::Refused(n),
-        Reading::Sheet(layout) => {
-            let bytes = form_length(layout.terminals, layout.asked);
-            RoomAnswer::Asked(bytes, layout.asked)
-        }
-    }
+    let sheet = read_sheet(sheet)?;
+    Ok(Asked {
+        bytes: form_length(sheet.alphabet.len(), sheet.asked),
+        numbers: sheet.asked,
+    })
 }

@@ -1,5 +1,5 @@
 -- The size of a sheet's tree by the form at the beginning of a slice.
-use mathlib.Core.Path.{◌≡◌, refl, sym, ap₂, subst, ◌∙◌}
+use mathlib.Core.Path.{◌≡◌, refl, sym, ap, ap₂, ◌∙◌}
 use mathlib.Core.Bool.{Bool, true, false, cond}
 use mathlib.Core.List.{List}
 use Prim.Native.Nat.{ℕ, ◌+◌, ◌*◌, ◌-◌, ◌≤◌}
@@ -20,6 +20,12 @@ use Rattle.terms.proofs.Sheet.Bodies.{joined}
 use Rattle.terms.proofs.Sheet.Passed.{sheet_passed}
 use Rattle.terms.specs.Answer.{Answer, refused, answered, answer}
 use Rattle.terms.proofs.Sheet.Asked.{just_enough}
+use Rattle.std.proofs.Common.{Ok, Err}
+use Rattle.terms.specs.declared.refusals.Refusal.{Refusal}
+use Rattle.sizing.specs.declared.answer.Size.{Size as Code·Size}
+use Rattle.sizing.specs.declared.answer.Size.TheVariants as sizes
+use Rattle.sizing.specs.Size.{answer_of_size}
+use Rattle.sizing.specs.Size.{number_of_size}
 use Rattle.mark_line.specs.Private.MarkedForm.{MarkedForm}
 
 -- what size says of a form, with so many numbers lent
@@ -67,26 +73,31 @@ parts sheet form m =
       call = rw (end, none, m.formed.tree) refl;
     }
 
+-- what size answers, for what the call was given
+pub size_told : (sheet form : List ℕ) → Parts sheet form → (rules end numbers : ℕ) (r : Answer Size) → rules ≡ body_offset sheet 1 → end ≡ form_length (terminal_count form) (rule_count form) → numbers ≡ counts_per_rule * most_asked
+    → r ≡ size_said (take (rules - 12) (drop 12 sheet)) (take end form) numbers → r ≡ answered (size_answer (size_of (sheet_tree sheet)))
+size_told sheet form p rules end numbers r here there many call =
+    let said = rw (here, there, many, p.alphabet, p.call) at call in
+    said
+
+-- it is no refusal
+pub not_refused : (refusal : Refusal) (size : Size) → answer_of_size (Err refusal) ≡ answered size → ⊥
+not_refused refusal size h = let z : ◌≡◌ {A = ℕ} 0 1 = cc in omega arith
+
 -- an answer of size as a number
-abbrev pub number_of : Answer Size → ℕ
-number_of (refused n) = 0
-number_of (answered (exact n)) = n
-number_of (answered over) = largest
+abbrev number_told : Answer Size → ℕ
+number_told (refused n) = 0
+number_told (answered (exact n)) = n
+number_told (answered over) = largest
 
-capped-number : (s : ℕ) → number_of (answered (size_answer s)) ≡ capped s
+capped-number : (n : ℕ) → number_told (answered (size_answer n)) ≡ capped n
 unfolding size_answer
-capped-number s = go (ltb s largest) refl
+capped-number n = go (ltb n largest) refl
   where
-    go : (b : Bool) → ltb s largest ≡ b → number_of (answered (cond b (exact s) over)) ≡ capped s
-    go true e = omega (arith, ltb-true s largest e)
-    go false e = omega (arith, ltb-false s largest e)
+    go : (b : Bool) → ltb n largest ≡ b → number_told (answered (cond b (exact n) over)) ≡ capped n
+    go true e = omega (arith, ltb-true n largest e)
+    go false e = omega (arith, ltb-false n largest e)
 
-size_number_lem : (s : ℕ) (r : Answer Size) → answered (size_answer s) ≡ r → number_of r ≡ capped s
-size_number_lem s r e = subst (λ (x : Answer Size). number_of x ≡ capped s) e (capped-number s)
-
--- the same for what the call was given
-pub size_is : (sheet form : List ℕ) → Parts sheet form → (rules end numbers : ℕ) (r : Answer Size) {e : Answer Size} → rules ≡ body_offset sheet 1 → end ≡ form_length (terminal_count form) (rule_count form) → numbers ≡ counts_per_rule * most_asked
-    → r ≡ size_said (take (rules - 12) (drop 12 sheet)) (take end form) numbers → r ≡ e → number_of e ≡ capped (size_of (sheet_tree sheet))
-size_is sheet form p rules end numbers r {e} here there many call is =
-    let same = rw (here, there, many, p.alphabet, p.call) at call in
-    size_number_lem (size_of (sheet_tree sheet)) e (sym same ∙ is)
+pub size_is : (n : ℕ) (size : Code·Size) → answer_of_size (Ok size) ≡ answered (size_answer n) → number_of_size size ≡ capped n
+size_is n (sizes.Exact m) h = ap number_told h ∙ capped-number n
+size_is n sizes.Over h = ap number_told h ∙ capped-number n

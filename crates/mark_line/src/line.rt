@@ -3,6 +3,7 @@ ghost use Rattle.std.specs.Prelude.{◌≡◌};
 ghost use Rattle.terms.specs.Sheet.{sheet_tree};
 ghost use Rattle.terms.specs.Count.{size_of, capped};
 ghost use Rattle.mark_line.specs.Private.MarkedForm.{MarkedForm};
+ghost use Rattle.sizing.specs.Size.{number_of_size};
 ghost use Rattle.mark_line.specs.Line.{answer_of_line, line_of};
 
 use checks::bytes::word;
@@ -14,42 +15,39 @@ use marking::mark::mark_sheet;
 use sheets::limits::MOST_ASKED;
 use sizing::answer::Size;
 use sizing::size::size;
+use terms::refusals::Refusal;
 
 // The length of a form of the most terminals of a sheet and the most rules that a form of it may take.
 const LONGEST_FORM: usize = layout::RANKS_OFFSET + MOST_TERMINALS + layout::RULE * MOST_ASKED;
 
-// The refusal, or the mask and the size, for which the largest number of 64 bits stands where it is over.
-#[derive(Clone, Copy)]
-pub enum Line {
-    Refused(u8),
-    Accepted(u8, u64),
-    Declined(u8, u64),
+// Verdict, mask and size.
+#[derive(Clone, Copy, Debug, PartialEq, Eq)]
+pub struct Line {
+    pub mark: Mark,
+    pub size: Size,
 }
 
 // The size of the sheet's tree, by the form at the beginning of a slice. The call is not refused: the form was made for the sheet's alphabet.
-fn size_of(sheet: &[u8], form: &[u8]) -> u64
+fn size_of(sheet: &[u8], form: &[u8]) -> Size
     requires { MarkedForm sheet.now form.now }
-    ensures { result ≡ capped (size_of (sheet_tree sheet.now)) }
+    ensures { number_of_size result ≡ capped (size_of (sheet_tree sheet.now)) }
 {
     let rules = word(sheet, 4);
     let end = layout::form_length(layout::terminal_count(form), layout::rule_count(form));
     let mut counts = [0u64; COUNTS * MOST_ASKED];
     match size(&sheet[CONTENTS..rules], &form[..end], &mut counts) {
-        Size::Refused(_) => 0,
-        Size::Exact(nodes) => nodes,
-        Size::Over => u64::MAX,
+        Ok(size) => size,
+        Err(_) => unreachable!(),
     }
 }
 
 // Marks a sheet, with room for the largest one.
-pub fn line_of(sheet: &[u8]) -> Line
+pub fn line_of(sheet: &[u8]) -> Result<Line, Refusal>
     ensures { answer_of_line result ≡ line_of sheet.now }
 {
     let mut form = [0u8; LONGEST_FORM];
     let mut relations = [0u64; MOST_ASKED];
-    match mark_sheet(sheet, &mut form, &mut relations) {
-        Mark::Refused(n) => Line::Refused(n),
-        Mark::Accepted(mask) => Line::Accepted(mask, size_of(sheet, &form)),
-        Mark::Declined(mask) => Line::Declined(mask, size_of(sheet, &form)),
-    }
+    let mark = mark_sheet(sheet, &mut form, &mut relations)?;
+    let size = size_of(sheet, &form);
+    Ok(Line { mark, size })
 }

@@ -1,24 +1,19 @@
 // Printing a line.
 use crate::line::Line;
-use std::io;
-use std::io::Write;
+use marking::answer::Verdict;
+use std::fmt;
 
-// Mask and size; the largest number of 64 bits represents "over".
-fn show_marked(output: &mut impl Write, verdict: &[u8], mask: u8, size: u64) -> io::Result<()> {
-    output.write_all(verdict)?;
-    write!(output, " {mask} ")?;
-    if size == u64::MAX {
-        output.write_all(b"over")
-    } else {
-        write!(output, "{size}")
+impl fmt::Display for Line {
+    // Verdict, mask and size; the largest number of 64 bits represents "over".
+    fn fmt<W: fmt::Write>(&self, f: &mut fmt::Formatter<W>) -> fmt::Result {
+        let mask = self.mark.mask;
+        match self.mark.verdict {
+            Verdict::Accepted => write!(f, "accepted {mask} ")?,
+            Verdict::Declined => write!(f, "declined {mask} ")?,
+        }
+        match u64::from(self.size) {
+            u64::MAX => write!(f, "over"),
+            nodes => write!(f, "{nodes}"),
+        }
     }
-}
-
-pub fn show_line(output: &mut impl Write, line: Line) -> io::Result<()> {
-    match line {
-        Line::Refused(n) => write!(output, "refused {n}")?,
-        Line::Accepted(mask, size) => show_marked(output, b"accepted", mask, size)?,
-        Line::Declined(mask, size) => show_marked(output, b"declined", mask, size)?,
-    }
-    output.write_all(b"\n")
 }

@@ -9,9 +9,7 @@ use Rattle.terms.specs.Automaton.{bit, has, set_of}
 use Rattle.terms.proofs.Test.{of_true, some_in, some_cong}
 use Rattle.terms.proofs.Automaton.Bits.{set_cong, set-whole}
 use Rattle.relations.proofs.Laws.{has_and}
-use Rattle.terms.specs.Answer.{answered}
 use Rattle.terms.specs.Sheet.{accepted, declined}
-use Rattle.terms.specs.Calls.{MarkAnswer}
 use Rattle.marking.specs.Private.Verdict.{verdict_on}
 
 none_in : (n : ℕ) (f : ℕ → Bool) → some n f ≡ false → (q : ℕ) → q < n → f q ≡ false
@@ -45,8 +43,8 @@ module _ (m f : ℕ) where
       go false e = absurd (k (no_bit (bit_and m f) (omega (arith, and_le_l m f)) e))
 
   -- the verdict
-  pub declines : bit_and m f ≡ 0 → ◌≡◌ {A = MarkAnswer} (answered (declined, m)) (answered (verdict_on m f, m))
+  pub declines : bit_and m f ≡ 0 → declined ≡ verdict_on m f
   declines e = rw (none_shared e)
 
-  pub accepts : m < 2 ^ 8 → (bit_and m f ≡ 0 → ⊥) → ◌≡◌ {A = MarkAnswer} (answered (accepted, m)) (answered (verdict_on m f, m))
+  pub accepts : m < 2 ^ 8 → (bit_and m f ≡ 0 → ⊥) → accepted ≡ verdict_on m f
   accepts h k = rw (some_shared h k)

@@ -1,9 +1,15 @@
 // What marking a sheet answers.
 
-// The refusal, or the verdict on the sheet with its mask.
-#[derive(Clone, Copy)]
-pub enum Mark {
-    Refused(u8),
-    Accepted(u8),
-    Declined(u8),
+// The verdict on a sheet.
+#[derive(Clone, Copy, Debug, PartialEq, Eq)]
+pub enum Verdict {
+    Accepted,
+    Declined,
+}
+
+// The verdict on a sheet, with its mask.
+#[derive(Clone, Copy, Debug, PartialEq, Eq)]
+pub struct Mark {
+    pub verdict: Verdict,
+    pub mask: u8,
 }

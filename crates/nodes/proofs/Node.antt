@@ -7,16 +7,17 @@ use native.Mathlib.Omega.{arith}
 use native.Mathlib.Decide.{ℕ_discrete}
 use borrow.Author.Tests.{eq-eqb, ne_eqb, ltb-true}
 use lib.Dec.{T, leb, eqb, ltb→lt}
-use lib.ListN.{length, get_or, set}
+use lib.ListN.{length, set}
 use lib.Seq.{get_or-set_same, get_or-set_other}
+use Rattle.std.proofs.Common.{Option, Some, None, get_or, take, ◌&&◌}
+use Rattle.std.specs.List.{list_all}
+use Rattle.terms.specs.Test.{every}
 use Rattle.terms.specs.Tree.{exactly, lacking, taking, wholes}
 use Rattle.terms.specs.Tree as tree
 use Rattle.terms.specs.Grammar.{Name, terminal, nonterminal, parameter, nothing, Rule, rule_rank, name_rank, allowed, is_parameter, sum_over}
 use Rattle.terms.specs.Check.{most_rules}
 use Rattle.terms.proofs.Grammar.Sum.{sum_over_le}
 use Rattle.nodes.specs.Nodes.{HasRank, counting, trees_in, ruled_by}
-use Rattle.nodes.specs.declared.wholes.Wholes.{Wholes}
-use Rattle.nodes.specs.declared.wholes.Wholes.TheVariants.{Exactly, Lacking}
 
 -- the rank of a rule of which only the rank is known
 pub rank-known : (ranks : List ℕ) (r : ℕ) → rule_rank (ruled_by ranks) r ≡ get_or ranks r 0
@@ -68,9 +69,9 @@ unfolding wholes
 at_most_nodes rank [] = omega arith
 at_most_nodes rank (m ∷ nodes) = omega (arith, one_more (rank m) (wholes rank nodes), at_most_nodes rank nodes)
 
-pub few_trees : (rank : ℕ → ℕ) (nodes : List ℕ) (behind : Wholes) → counting behind ≡ wholes rank nodes → trees_in behind ≤ length nodes
-few_trees rank nodes (Exactly n) e = omega (arith, ap trees e, at_most_nodes rank nodes)
-few_trees rank nodes Lacking e = omega arith
+pub few_trees : (rank : ℕ → ℕ) (nodes : List ℕ) (behind : Option ℕ) → counting behind ≡ wholes rank nodes → trees_in behind ≤ length nodes
+few_trees rank nodes (Some n) e = omega (arith, ap trees e, at_most_nodes rank nodes)
+few_trees rank nodes None e = omega arith
 
 -- a parameter occurs at most as often as there are nodes
 pub few-times : (j : ℕ) (nodes : List ℕ) → sum_over (is_parameter j) nodes ≤ length nodes
@@ -85,3 +86,21 @@ few-times j nodes = omega (arith, sum_over_le (is_parameter j) 1 at_most nodes)
     at_most (nonterminal r) = omega arith
     at_most (parameter i) = once (eqb j i)
     at_most nothing = omega arith
+
+-- a test of the numbers below a bound is that of the first, and of those that follow it
+every-first : (n : ℕ) (p : ℕ → Bool) → every (suc n) p ≡ (p 0 && every n (λ j. p (suc j)))
+unfolding every
+every-first zero p = refl
+every-first (suc n) p = rw (every-first n p) (swap (p (suc n)) (p 0))
+  where
+    swap : (a b : Bool) → (a && (b && every n (λ j. p (suc j)))) ≡ (b && (a && every n (λ j. p (suc j))))
+    swap true b = refl
+    swap false true = refl
+    swap false false = refl
+
+-- the first elements of a list pass a test where those at the first places do
+pub every-element : {A : Type 0} (p : A → Bool) (n : ℕ) (xs : List A) (d : A) → n ≤ length xs → list_all p (take n xs) ≡ every n (λ j. p (get_or xs j d))
+unfolding every
+every-element p zero xs d h = refl
+every-element p (suc n) [] d h = absurd (omega arith)
+every-element p (suc n) (x ∷ xs) d h = rw (every-first n (λ j. p (get_or (x ∷ xs) j d)), every-element p n xs d (omega arith))

@@ -15,6 +15,7 @@ pub const FIRST_PARAMETER: u8 = 0x80;
 
 const PAST_PARAMETERS: u8 = 0x84;
 
+// As the definition has it, with nothing as a case of its own: an Option of a name would put Some around each pattern of each match.
 #[derive(Clone, Copy)]
 pub enum Name {
     Terminal(Terminal),
@@ -25,34 +26,23 @@ pub enum Name {
 }
 
 // What a node byte names.
+#[tactic(auto, unfolding(terms::specs::Grammar::name, terms::specs::Grammar::name_of))]
 pub fn name_of(byte: u8) -> Name
     ensures { naming result ≡ name byte }
 {
-    if byte < PAST_TERMINALS {
-        return Name::Terminal(Terminal(byte));
+    match byte {
+        ..PAST_TERMINALS => Name::Terminal(Terminal(byte)),
+        FIRST_RULE..FIRST_PARAMETER => Name::Nonterminal(Rule((byte - FIRST_RULE) as u16)),
+        FIRST_PARAMETER..PAST_PARAMETERS => Name::Parameter(byte - FIRST_PARAMETER),
+        _ => Name::Nothing,
     }
-    if byte < FIRST_RULE {
-        return Name::Nothing;
-    }
-    if byte < FIRST_PARAMETER {
-        return Name::Nonterminal(Rule((byte - FIRST_RULE) as u16));
-    }
-    if byte < PAST_PARAMETERS {
-        return Name::Parameter(byte - FIRST_PARAMETER);
-    }
-    Name::Nothing
 }
 
 // Whether it is a parameter.
 pub fn is_parameter(name: Name) -> bool
     ensures { result ≡ any_parameter (naming name) }
 {
-    match name {
-        Name::Terminal(_) => false,
-        Name::Nonterminal(_) => false,
-        Name::Parameter(_) => true,
-        Name::Nothing => false,
-    }
+    matches!(name, Name::Parameter(_))
 }
 
 // Whether a node of the right side of a rule may name it: a terminal of the alphabet, a lower rule, a parameter of the rule.
@@ -73,15 +63,8 @@ pub fn name_rank(alphabet: &[u8], ranks: &[u8; MOST_RULES], name: Name) -> u8
     ensures { result ≡ name_rank alphabet.now (ruled_by ranks.now) (naming name) }
 {
     match name {
-        Name::Terminal(f) => {
-            let i = f.0 as usize;
-            alphabet[i]
-        }
-        Name::Nonterminal(r) => {
-            let i = r.0 as usize;
-            ranks[i]
-        }
-        Name::Parameter(_) => 0,
-        Name::Nothing => 0,
+        Name::Terminal(f) => alphabet[f.0 as usize],
+        Name::Nonterminal(r) => ranks[r.0 as usize],
+        Name::Parameter(_) | Name::Nothing => 0,
     }
 }

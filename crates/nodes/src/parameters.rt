@@ -12,14 +12,8 @@ pub fn count_parameter(name: Name, counts: &mut [u8; HIGHEST_RANK as usize])
     requires { CanCount (naming name) counts.old }
     ensures { CountedWith (naming name) counts.old counts.new }
 {
-    match name {
-        Name::Terminal(_) => {}
-        Name::Nonterminal(_) => {}
-        Name::Parameter(parameter) => {
-            let j = parameter as usize;
-            counts[j] = counts[j] + 1;
-        }
-        Name::Nothing => {}
+    if let Name::Parameter(parameter) = name {
+        counts[parameter as usize] += 1;
     }
 }
 
@@ -28,12 +22,5 @@ pub fn each_at_most_once(counts: &[u8; HIGHEST_RANK as usize], rank: u8) -> bool
     requires { rank ≤ highest_rank }
     ensures { result ≡ every rank (λ j. leb (get_or counts.now j 0) 1) }
 {
-    let mut left = rank as usize;
-    while 0 < left {
-        left -= 1;
-        if 1 < counts[left] {
-            return false;
-        }
-    }
-    true
+    counts[..rank as usize].iter().all(|count| *count <= 1)
 }

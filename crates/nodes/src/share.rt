@@ -1,19 +1,9 @@
 // How many rules of a form a node may take.
-ghost use Rattle.std.specs.Prelude.{◌≡◌, ◌*◌, ◌-◌, ◌<◌};
+ghost use Rattle.std.specs.Prelude.{◌≡◌, ◌<◌};
 ghost use Rattle.terms.specs.Form.{share};
 ghost use Rattle.nodes.specs.Nodes.{naming};
 
 use crate::name::Name;
-
-// The share of a call of a rule of a rank.
-fn call_share(rank: u8) -> usize
-    ensures { result ≡ 4 * rank - 3 }
-{
-    if rank == 0 {
-        return 0;
-    }
-    4 * rank as usize - 3
-}
 
 // The share of a node that names something of a rank: 2 for a terminal, 4 n - 3 for a call of a rule of rank n above 0, else none. A rank is a byte, so that
 // a share is below 1,024, and a sum of shares cannot overflow.
@@ -23,8 +13,7 @@ pub fn share(name: Name, rank: u8) -> usize
 {
     match name {
         Name::Terminal(_) => 2,
-        Name::Nonterminal(_) => call_share(rank),
-        Name::Parameter(_) => 0,
-        Name::Nothing => 0,
+        Name::Nonterminal(_) => (4 * rank as usize).saturating_sub(3),
+        Name::Parameter(_) | Name::Nothing => 0,
     }
 }

@@ -1,5 +1,5 @@
 -- A form that is opened once and then read by rule number (document 01, "One-hole form"): for every number the answer is that of a call which checks and reads the form anew.
-use mathlib.Core.Path.{◌≡◌, refl}
+use mathlib.Core.Path.{◌≡◌, refl, sym, ◌∙◌}
 use mathlib.Core.Bool.{Bool, true, false}
 use mathlib.Core.List.{List}
 use Prim.Native.Nat.{ℕ, zero, suc, ◌+◌, ◌<◌}
@@ -14,7 +14,11 @@ use Rattle.terms.specs.Calls.{opening_refusal, reading_refusal}
 use Rattle.opening.specs.Reading.{rule_reading}
 use Rattle.forms.proofs.Rules.{passed, opening_passed}
 use Rattle.opening.specs.declared.OpenForm.{OpenForm}
-use Rattle.opening.specs.Opening.{opened_rules, opened_reading}
+use Rattle.opening.specs.Opening.{opened_rules, opened_reading, reading_of}
+use Rattle.std.specs.Prelude.{Result, Ok, Err, IfOk}
+use Rattle.terms.specs.declared.refusals.Refusal.{Refusal}
+use Rattle.terms.specs.Answer.{number_of, refusal_of}
+use Rattle.terms.proofs.InTurn.{stopped, answers_refusal}
 
 -- a second row of 21 says nothing where it holds only if the first does
 one_row : (b c : Bool) → (b ≡ false → c ≡ false) → or_else (21 when b) (or_else (21 when c) 0) ≡ or_else (21 when b) 0
@@ -39,13 +43,14 @@ module _ (alphabet form : List ℕ) (i : ℕ) where
   open_then_read = by_refusal (opening_refusal alphabet form) refl
 
 -- what `open` promises of its answer
-abbrev pub Opened : List ℕ → Bor (List ℕ) → OpenForm → Type 0
+abbrev pub Opened : List ℕ → Bor (List ℕ) → Result OpenForm Refusal → Type 0
 Opened alphabet form opened =
-    (opened.form ≡ form)
-    × (opened.rules ≡ opened_rules form.now (opening_refusal alphabet form.now))
-    × (opened.refusal ≡ opening_refusal alphabet form.now)
+    (refusal_of opened ≡ opening_refusal alphabet form.now)
+    × IfOk opened (λ o. (o.form ≡ form) × (o.rules ≡ rule_count form.now))
 
 -- a form opened once is read as often as one likes: for every number
-pub opened-once : (alphabet : List ℕ) (form : Bor (List ℕ)) (opened : OpenForm) → Opened alphabet form opened
-    → (i : ℕ) → opened_reading opened.form.now opened.rules opened.refusal i ≡ rule_reading alphabet form.now i
-opened-once alphabet form opened (bytes, rules, refusal) i = rw (bytes, rules, refusal) (open_then_read alphabet form.now i)
+pub opened-once : (alphabet : List ℕ) (form : Bor (List ℕ)) (opened : Result OpenForm Refusal) → Opened alphabet form opened
+    → (i : ℕ) → reading_of opened i ≡ rule_reading alphabet form.now i
+opened-once alphabet form (Ok o) (none, (bytes, rules)) i = rw (bytes, rules) (by_refusal alphabet form.now i 0 (sym none))
+opened-once alphabet form (Err refusal) (given, found) i =
+    sym (answers_refusal refusal _ _ (sym (stopped refusal (number_of refusal) _ refl))) ∙ by_refusal alphabet form.now i (number_of refusal) (sym given)

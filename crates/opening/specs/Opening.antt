@@ -1,10 +1,12 @@
 -- A form that is opened once and then read by rule number (document 01, "One-hole form").
-use Rattle.std.specs.Prelude.{List, [], ◌∷◌, ℕ, zero, suc, ◌+◌, leb, ltb, length}
+use Rattle.std.specs.Prelude.{List, [], ◌∷◌, ℕ, zero, suc, ◌+◌, leb, ltb, length, Result, Ok, Err}
+use Rattle.terms.specs.declared.refusals.Refusal.{Refusal}
 use Rattle.terms.specs.Refusal.{◌when◌, first}
 use Rattle.terms.specs.FormBytes.{form_length, rule_count, terminal_count, table_of}
-use Rattle.terms.specs.Answer.{Answer, answer}
+use Rattle.terms.specs.Answer.{Answer, refused, answer, number_of}
 use Rattle.form_bytes.specs.declared.rule.FormRule.{FormRule}
 use Rattle.form_bytes.specs.Fields.{fields_at}
+use Rattle.opening.specs.declared.OpenForm.{OpenForm}
 
 -- how many rules of a form can be read: R, or none where opening refused it (01 One-hole form)
 abbrev pub opened_rules : List ℕ → ℕ → ℕ
@@ -18,3 +20,13 @@ opened_refusal form rules refusal i = first (refusal ∷ 21 when (leb rules i) �
 -- the refusal, or that rule's kind, terminal, hole and four slots (01 One-hole form)
 abbrev pub opened_reading : List ℕ → ℕ → ℕ → ℕ → Answer FormRule
 opened_reading form rules refusal i = answer (opened_refusal form rules refusal i) (fields_at (table_of form) i)
+
+-- how many rules opening found, none where it refused the form (01 One-hole form)
+abbrev pub rules_found : Result ℕ Refusal → ℕ
+rules_found (Ok rules) = rules
+rules_found (Err refusal) = 0
+
+-- reading rule i of what opening answered: of a form that it refused it says that refusal (01 One-hole form)
+abbrev pub reading_of : Result OpenForm Refusal → ℕ → Answer FormRule
+reading_of (Ok opened) i = opened_reading opened.form.now opened.rules 0 i
+reading_of (Err refusal) i = refused (number_of refusal)

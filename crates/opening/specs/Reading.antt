@@ -1,17 +1,15 @@
 -- What reading a rule of a form answers (document 01, "Refusals with a sheet for each", and document 02, R-5: 3, 4, 18, 28 and 21).
-use Rattle.std.specs.Prelude.{List, ℕ}
+use Rattle.std.specs.Prelude.{List, ℕ, Result}
+use Rattle.terms.specs.declared.refusals.Refusal.{Refusal}
 use Rattle.terms.specs.FormBytes.{table_of}
-use Rattle.terms.specs.Answer.{Answer, refused, answered, answer}
+use Rattle.terms.specs.Answer.{Answer, answer, answer_of}
 use Rattle.terms.specs.Calls.{reading_refusal}
 use Rattle.form_bytes.specs.declared.rule.FormRule.{FormRule}
 use Rattle.form_bytes.specs.Fields.{fields_at}
-use Rattle.opening.specs.declared.RuleReading.{RuleReading}
-use Rattle.opening.specs.declared.RuleReading.TheVariants.{Refused, Read}
 
 -- a rule, for each case (01 One-hole form)
-abbrev pub answer_of_rule : RuleReading → Answer FormRule
-answer_of_rule (Refused n) = refused n
-answer_of_rule (Read rule) = answered rule
+abbrev pub answer_of_rule : Result FormRule Refusal → Answer FormRule
+answer_of_rule = answer_of
 
 -- reading the rule of a number (01 Refusals)
 unfoldable pub rule_reading : List ℕ → List ℕ → ℕ → Answer FormRule

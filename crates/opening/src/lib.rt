@@ -1,94 +1,71 @@
 // Opening a one-hole form, which is done once, and reading its rules by number.
 #![tactic(auto)]
 
-ghost use Rattle.std.specs.Prelude.{◌≡◌};
+ghost use Rattle.std.specs.Prelude.{◌≡◌, IfOk};
+ghost use Rattle.terms.specs.FormBytes.{rule_count};
+ghost use Rattle.terms.specs.Answer.{refusal_of, answer_of, answer};
 ghost use Rattle.terms.specs.Calls.{opening_refusal};
 ghost use Rattle.opening.specs.Reading.{answer_of_rule, rule_reading};
-ghost use Rattle.opening.specs.Opening.{opened_rules, opened_reading};
+ghost use Rattle.opening.specs.Opening.{opened_reading, rules_found, reading_of};
 
 use form_bytes::layout;
 use form_bytes::rule::{FormRule, rule_at};
-use forms::check;
+use forms::check::check_opening;
 use terms::Rule;
+use terms::refusals::Refusal;
 
-// The refusal of a number that no rule has.
-const NO_RULE: u8 = 21;
-
-// What reading a rule answers: the refusal, or the rule.
-#[derive(Clone, Copy)]
-pub enum RuleReading {
-    Refused(u8),
-    Read(FormRule),
-}
-
-// A form that was opened: its bytes, the number of its rules, and what opening refused (0 where nothing). Its fields are this crate's own, so that only `open`
-// makes one.
+// A form that was opened: its bytes, and the number of its rules. Its fields are this crate's own, so that only `open` makes one.
 #[derive(Clone, Copy)]
 pub struct OpenForm<'a> {
     form: &'a [u8],
     rules: usize,
-    refusal: u8,
-}
-
-// What the check of a form finds: how many rules can be read, none where it is refused, and the refusal.
-#[derive(Clone, Copy)]
-pub struct Opening {
-    pub rules: usize,
-    pub refusal: u8,
 }
 
 // Checks a form that is given with an alphabet, and counts its rules.
-pub fn check_and_count(alphabet: &[u8], form: &[u8]) -> Opening
-    ensures { let refusal = opening_refusal alphabet.now form.now in (result.rules ≡ opened_rules form.now refusal) × (result.refusal ≡ refusal) }
+#[tactic(auto, using(terms::proofs::InTurn::in_turn))]
+pub fn check_and_count(alphabet: &[u8], form: &[u8]) -> Result<usize, Refusal>
+    ensures { answer_of result ≡ answer (opening_refusal alphabet.now form.now) (rule_count form.now) }
 {
-    let refusal = check::check_opening(alphabet, form);
-    if refusal != 0 {
-        return Opening { rules: 0, refusal };
-    }
-    Opening {
-        rules: layout::rule_count(form),
-        refusal,
-    }
+    check_opening(alphabet, form)?;
+    Ok(layout::rule_count(form))
 }
 
-// The rule of a number, of a form with so many rules and this refusal: 21 where the number is not below the rules or the rule does not stand whole in the bytes.
-pub fn rule_of(form: &[u8], rules: usize, refusal: u8, number: Rule) -> RuleReading
-    ensures { answer_of_rule result ≡ opened_reading form.now rules refusal number.0 }
+// The rule of a number, of a form of which so many rules were found, or which was refused: 21 where the number is not below the rules or the rule does not stand
+// whole in the bytes.
+pub fn rule_of(
+    form: &[u8],
+    opened: Result<usize, Refusal>,
+    number: Rule,
+) -> Result<FormRule, Refusal>
+    ensures { answer_of_rule result ≡ opened_reading form.now (rules_found opened) (refusal_of opened) number.0 }
 {
-    if refusal != 0 {
-        return RuleReading::Refused(refusal);
-    }
+    let rules = opened?;
     let place = number.0 as usize;
-    if rules <= place {
-        return RuleReading::Refused(NO_RULE);
+    if rules <= place || form.len() < layout::form_length(layout::terminal_count(form), place + 1) {
+        return Err(Refusal::NoPlace);
     }
-    if form.len() < layout::form_length(layout::terminal_count(form), place + 1) {
-        return RuleReading::Refused(NO_RULE);
-    }
-    RuleReading::Read(rule_at(layout::table_of(form), number))
+    Ok(rule_at(layout::table_of(form), number))
 }
 
 // Opens a form: refused by 3 and 4 for the alphabet, 18 for the form, 28 where the form carries another alphabet.
-pub fn open<'a>(alphabet: &[u8], form: &'a [u8]) -> OpenForm<'a>
-    ensures { let refusal = opening_refusal alphabet.now form.now in (result.form ≡ form.entry) × (result.rules ≡ opened_rules form.now refusal) × (result.refusal ≡ refusal) }
+pub fn open<'a>(alphabet: &[u8], form: &'a [u8]) -> Result<OpenForm<'a>, Refusal>
+    ensures refusal { refusal_of result ≡ opening_refusal alphabet.now form.now }
+    ensures parts { IfOk result (λ opened. (opened.form ≡ form.entry) × (opened.rules ≡ rule_count form.now)) }
 {
-    let found = check_and_count(alphabet, form);
-    OpenForm {
-        form,
-        rules: found.rules,
-        refusal: found.refusal,
-    }
+    let rules = check_and_count(alphabet, form)?;
+    Ok(OpenForm { form, rules })
 }
 
 // Reads the rule of a number of a form that was opened.
-pub fn rule<'a>(opened: OpenForm<'a>, number: Rule) -> RuleReading
-    ensures { answer_of_rule result ≡ opened_reading opened.entry.form.now opened.entry.rules opened.entry.refusal number.0 }
+pub fn rule<'a>(opened: Result<OpenForm<'a>, Refusal>, number: Rule) -> Result<FormRule, Refusal>
+    ensures { answer_of_rule result ≡ reading_of opened.entry number.0 }
 {
-    rule_of(opened.form, opened.rules, opened.refusal, number)
+    let form = opened?;
+    rule_of(form.form, Ok(form.rules), number)
 }
 
 // Opens a form and reads the rule of a number.
-pub fn read(alphabet: &[u8], form: &[u8], number: Rule) -> RuleReading
+pub fn read(alphabet: &[u8], form: &[u8], number: Rule) -> Result<FormRule, Refusal>
     ensures { answer_of_rule result ≡ rule_reading alphabet.now form.now number.0 }
 {
     rule(open(alphabet, form), number)

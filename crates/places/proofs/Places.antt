@@ -9,19 +9,19 @@ use lib.ListN.{length}
 use Rattle.terms.specs.Test.{tabulate}
 use Rattle.terms.specs.Grammar.{terminal_rank}
 use Rattle.terms.specs.Form.{Value, pierced, value_at, rule_at, Has, Valid}
-use Rattle.terms.specs.FormBytes.{rule_length, rule_byte, slot_of, table_rule, table_rules}
+use Rattle.terms.specs.FormBytes.{table_count, rule_byte, slot_of, table_rule, table_rules}
 use Rattle.terms.specs.Count.{own_nodes, nodes_before, capped}
 use Rattle.terms.specs.Calls.{counts_per_rule}
 use Rattle.counting.specs.Private.Symbols.{own_symbols}
 use Rattle.counting.proofs.Symbols.{around}
 use Rattle.places.proofs.Descent.{root-whole, root-pierced, lies_whole, lies_left, lies_right, lies_before, lies_inside, lies_after, filled_around, composed-around}
-use Rattle.counting.specs.Private.Counts.{HasCounts, own_in, before_in, slots_from}
+use Rattle.counting.specs.Private.Counts.{CountedTable, own_in, before_in, slots_from}
 use Rattle.places.specs.Position.{place_in, symbol_at, Position, Lies}
 use Rattle.counting.proofs.Slots.{slots-all}
 use Rattle.forms.proofs.Rules.{valid-rules, in_rules, rule-is, is_whole, is-pierced, is-filled, is-composed, filled_names, composed_names}
-use Rattle.counting.proofs.Counted.{rule-there, counts-long, counts-there, own-known, before-known}
+use Rattle.counting.proofs.Counted.{counts-long, own-known, before-known}
 
-module _ {alphabet table counts : List ℕ} {i p : ℕ} (at : Position alphabet table counts i p) where
+module _ {alphabet table counts : List ℕ} (known : CountedTable alphabet table counts) {i p : ℕ} (at : Position alphabet table i p) where
   abbrev value : ℕ → Value
   value = value_at (table_rules alphabet table)
 
@@ -38,27 +38,21 @@ module _ {alphabet table counts : List ℕ} {i p : ℕ} (at : Position alphabet 
   h = rule_byte table i 2
 
   valid : Valid alphabet (table_rules alphabet table)
-  valid = valid-rules alphabet table at.known.valid
+  valid = valid-rules alphabet table known.valid
 
   below : i < length (table_rules alphabet table)
-  below = in_rules alphabet table at.known.valid i at.rule
+  below = in_rules alphabet table known.valid i at.rule
 
   is : rule_at (table_rules alphabet table) i ≡ table_rule alphabet table i
-  is = rule-is alphabet table at.known.valid i at.rule
-
-  pub rule-long : rule_length * i + rule_length ≤ length table
-  rule-long = rule-there at.known i at.rule
+  is = rule-is alphabet table known.valid i at.rule
 
   -- the counts of every rule are there
 
   pub room : counts_per_rule * i ≤ length counts
-  room = omega (arith, counts-long at.known, at.rule)
-
-  pub has-counts : HasCounts counts i
-  has-counts = counts-there at.known i at.rule
+  room = omega (arith, counts-long known, at.rule)
 
   own_below : (a : ℕ) → a < i → own_in counts a ≡ capped (own_nodes (value a))
-  own_below a l = own-known at.known a (omega (arith, at.rule))
+  own_below a l = own-known known a (omega (arith, at.rule))
 
   -- kinds 0 and 1: the terminal, and the slots
 
@@ -68,8 +62,8 @@ module _ {alphabet table counts : List ℕ} {i p : ℕ} (at : Position alphabet 
       go (eq-or-lt_of_le l)
     where
       go : (kind ≡ 1) ⊎ (kind < 1) → rule_byte table i 1 ≡ symbol_at alphabet table i p
-      go (inl e) = sym (root-pierced valid i below p at.within _ _ _ (is ∙ is-pierced alphabet table at.known.valid i at.rule e) z)
-      go (inr l) = sym (root-whole valid i below p at.within _ _ (is ∙ is_whole alphabet table at.known.valid i at.rule (omega arith)) z)
+      go (inl e) = sym (root-pierced valid i below p at.within _ _ _ (is ∙ is-pierced alphabet table known.valid i at.rule e) z)
+      go (inr l) = sym (root-whole valid i below p at.within _ _ (is ∙ is_whole alphabet table known.valid i at.rule (omega arith)) z)
 
   module _ (z : 0 < p) (a q : ℕ) where
     lies_at : (x : ℕ × ℕ) → (a, q) ≡ x → Lies alphabet table i p x.0 x.1 → Lies alphabet table i p a q
@@ -77,21 +71,21 @@ module _ {alphabet table counts : List ℕ} {i p : ℕ} (at : Position alphabet 
 
     pub lies_in_whole : kind ≡ 0 → (a, q) ≡ place_in (own_in counts) (slots_from slot 0 n) (p - 1) → Lies alphabet table i p a q
     lies_in_whole k e =
-        let r = is ∙ is_whole alphabet table at.known.valid i at.rule k in
+        let r = is ∙ is_whole alphabet table known.valid i at.rule k in
         lies_at _ (rw (slots-all slot n) at e) (lies_whole valid i below p at.within (own_in counts) own_below z _ _ r)
 
     module _ (k : kind ≡ 1) where
       r : rule_at (table_rules alphabet table) i ≡ pierced (rule_byte table i 1) (tabulate (h - 1) slot) (tabulate (n - h) (λ j. slot (h + j)))
-      r = is ∙ is-pierced alphabet table at.known.valid i at.rule k
+      r = is ∙ is-pierced alphabet table known.valid i at.rule k
 
       pub lies_in_left : p < before_in counts i → (a, q) ≡ place_in (own_in counts) (slots_from slot 0 (h - 1)) (p - 1) → Lies alphabet table i p a q
       lies_in_left b e =
           lies_at _ (rw (slots-all slot (h - 1)) at e)
-          (lies_left valid i below p at.within (own_in counts) own_below z _ _ _ r (before_in counts i) (before-known at.known i at.rule) b)
+          (lies_left valid i below p at.within (own_in counts) own_below z _ _ _ r (before_in counts i) (before-known known i at.rule) b)
 
       pub lies_in_right : before_in counts i ≤ p → (a, q) ≡ place_in (own_in counts) (slots_from slot h n) (p - before_in counts i) → Lies alphabet table i p a q
       lies_in_right b e =
-          lies_at _ e (lies_right valid i below p at.within (own_in counts) own_below z _ _ _ r (before_in counts i) (before-known at.known i at.rule) b)
+          lies_at _ e (lies_right valid i below p at.within (own_in counts) own_below z _ _ _ r (before_in counts i) (before-known known i at.rule) b)
 
   -- kinds 2 and 3: B with C inside
   module _ (k : 2 ≤ kind) where
@@ -106,17 +100,17 @@ module _ {alphabet table counts : List ℕ} {i p : ℕ} (at : Position alphabet 
       where
         go : (2 ≡ kind) ⊎ (2 < kind) → Chain
         go (inl e) =
-            let p2 = filled_names alphabet table at.known.valid i at.rule (sym e) in
-            record { outer = p2.0; inner = p2.1.below; symbols = filled_around valid i below p at.within _ _ (is ∙ is-filled alphabet table at.known.valid i at.rule (sym e)) }
+            let p2 = filled_names alphabet table known.valid i at.rule (sym e) in
+            record { outer = p2.0; inner = p2.1.below; symbols = filled_around valid i below p at.within _ _ (is ∙ is-filled alphabet table known.valid i at.rule (sym e)) }
         go (inr g) =
-            let p3 = composed_names alphabet table at.known.valid i at.rule g in
-            record { outer = p3.0; inner = p3.1.below; symbols = composed-around valid i below p at.within _ _ (is ∙ is-composed alphabet table at.known.valid i at.rule g) }
+            let p3 = composed_names alphabet table known.valid i at.rule g in
+            record { outer = p3.0; inner = p3.1.below; symbols = composed-around valid i below p at.within _ _ (is ∙ is-composed alphabet table known.valid i at.rule g) }
 
-    pub outer_counts : HasCounts counts (slot 0)
-    outer_counts = counts-there at.known (slot 0) (omega (arith, chain.outer.below, at.rule))
+    pub outer_there : slot 0 < table_count table
+    outer_there = omega (arith, chain.outer.below, at.rule)
 
-    pub inner_counts : HasCounts counts (slot 1)
-    inner_counts = counts-there at.known (slot 1) (omega (arith, chain.inner, at.rule))
+    pub inner_there : slot 1 < table_count table
+    inner_there = omega (arith, chain.inner, at.rule)
 
     abbrev prior : ℕ
     prior = before_in counts (slot 0)
@@ -125,7 +119,7 @@ module _ {alphabet table counts : List ℕ} {i p : ℕ} (at : Position alphabet 
     own = own_in counts (slot 1)
 
     prior-is : prior ≡ capped (nodes_before (value (slot 0)))
-    prior-is = before-known at.known (slot 0) (omega (arith, chain.outer.below, at.rule))
+    prior-is = before-known known (slot 0) (omega (arith, chain.outer.below, at.rule))
 
     inner_is : own ≡ capped (own_nodes (value (slot 1)))
     inner_is = own_below (slot 1) chain.inner

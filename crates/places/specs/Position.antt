@@ -5,7 +5,6 @@ use Rattle.terms.specs.Form.{Value, value_at}
 use Rattle.terms.specs.FormBytes.{table_count, table_rules}
 use Rattle.terms.specs.Count.{own_nodes, capped}
 use Rattle.counting.specs.Private.Symbols.{own_symbols}
-use Rattle.counting.specs.Private.Counts.{CountedTable}
 use Rattle.places.specs.declared.place.Found.{Found}
 use Rattle.places.specs.declared.place.Found.TheVariants.{At, In}
 
@@ -28,9 +27,8 @@ symbol_at alphabet table i p = get_or (own_symbols (value_at (table_rules alphab
 abbrev pub position_refusal : List ℕ → List ℕ → ℕ → ℕ → ℕ
 position_refusal alphabet table i p = 21 when (leb (capped (own_nodes (value_at (table_rules alphabet table) i))) p)
 
--- rule i of a table with its counts has a position p (01 Size, label)
-pub record Position (alphabet table counts : List ℕ) (i p : ℕ) : Type 0 where
-  pub known : CountedTable alphabet table counts
+-- rule i of a table has a position p (01 Size, label)
+pub record Position (alphabet table : List ℕ) (i p : ℕ) : Type 0 where
   pub rule : i < table_count table
   pub within : p < capped (own_nodes (value_at (table_rules alphabet table) i))
 

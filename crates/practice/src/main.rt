@@ -3,42 +3,31 @@
 
 mod request;
 
-use crate::request::{NO_NUMBER, read_bytes, read_number};
+use crate::request::{read_bytes, read_number};
 use practice_sheets::practice::practice;
-use rows::show::{print, put, say_refused};
-use rows::words::{UNREADABLE, say};
 use sheets::limits::LONGEST_SHEET;
 use std::io;
 use std::io::Write;
-use terms::answers::LengthAnswer;
 
 // Prints the sheet, or the number of the refusal.
 fn print_sheet(output: &mut impl Write, first: u32, m: usize, automaton: &[u8]) -> io::Result<()> {
     let mut sheet = [0u8; LONGEST_SHEET];
     match practice(first, m, automaton, &mut sheet) {
-        LengthAnswer::Refused(n) => {
-            say_refused(output, n)?;
-            put(output, b'\n')
-        }
-        LengthAnswer::Written(n) => print(output, &sheet[..n]),
+        Ok(length) => output.write_all(&sheet[..length]),
+        Err(refusal) => writeln!(output, "{refusal}"),
     }
 }
 
 fn main(rt: HostRuntime) -> io::Result<()> {
     let mut input = rt.stdin();
     let mut output = rt.stdout();
-    let first = read_number(&mut input)?;
+    let first = read_number(&mut input)?.map(u32::try_from);
     let m = read_number(&mut input)?;
     // More bytes than the longest automaton has, so that one that is too long shows as such; what fills the array cannot be read.
     let mut automaton = [0u8; LONGEST_SHEET];
     let length = read_bytes(&mut input, &mut automaton)?;
-    if first <= u32::MAX as usize {
-        if m < NO_NUMBER {
-            if length < automaton.len() {
-                return print_sheet(&mut output, first as u32, m, &automaton[..length]);
-            }
-        }
+    if let (Some(Ok(first)), Some(m), Some(length)) = (first, m, length) {
+        return print_sheet(&mut output, first, m, &automaton[..length]);
     }
-    say(&mut output, UNREADABLE)?;
-    put(&mut output, b'\n')
+    writeln!(output, "unreadable")
 }

@@ -3,7 +3,6 @@ use Rattle.std.specs.Prelude.{◌≡◌, ℕ, ◌+◌, ◌%◌, cond, List, ◌+
 use Rattle.terms.specs.Sheet.{written_rule}
 use Rattle.practice_terms.specs.Draw.{next, draw, is_even, Choice, calls, beside}
 use Rattle.practice_terms.specs.Practice.{drawn_rule}
-use Rattle.practice_rules.specs.declared.rules.Progress.{Progress}
 
 -- the choice for rule i, where the generator has come to x
 abbrev pub choice_from : ℕ → ℕ → Choice
@@ -27,8 +26,8 @@ bytes_from i x = written_rule (drawn_rule (choice_from i x))
 abbrev pub Copied : List ℕ → ℕ → List ℕ → List ℕ → Type 0
 Copied bytes at exit entry = exit ≡ take at entry ++ (bytes ++ drop (at + length bytes) entry)
 
--- rule i was drawn from the number x and copied to a place; progress is the number after it, and where it ends
-pub record Drawn (x i at : ℕ) (progress : Progress) (exit entry : List ℕ) : Type 0 where
-  pub number : progress.x ≡ after_rule x
-  pub end : progress.end ≡ at + length (bytes_from i x)
+-- rule i was drawn from the number x and copied to a place; y is the number after it, and end is where it ends
+pub record Drawn (x i at y end : ℕ) (exit entry : List ℕ) : Type 0 where
+  pub number : y ≡ after_rule x
+  pub ends : end ≡ at + length (bytes_from i x)
   pub copied : Copied (bytes_from i x) at exit entry

@@ -1,31 +1,24 @@
 // The generator of draws: a number of 32 bits, its step, and the draw that a step gives.
-ghost use Rattle.std.specs.Prelude.{◌≡◌, ◌*◌, ◌%◌, ◌^◌};
-ghost use Rattle.practice_terms.specs.Draw.{next as Draw·next};
-ghost use Rattle.practice_terms.specs.Draw.{draw as Draw·draw};
-
-use std::num::wrapping_add_u32;
+ghost use Rattle.std.specs.Prelude.{◌≡◌};
+ghost use Rattle.practice_terms.specs.Draw.{draw as Draw·draw, next as Draw·next};
 
 const MULTIPLIER: u32 = 1_664_525;
 
 const INCREMENT: u32 = 1_013_904_223;
 
-// a * b, modulo 2^32. The product of two numbers of 32 bits fits 64.
-fn wrapping_multiply(a: u32, b: u32) -> u32
-    ensures { result ≡ a * b % 2 ^ 32 }
-{
-    (a as u64 * b as u64 % 0x1_0000_0000) as u32
+// The number that the generator has come to.
+#[derive(Clone, Copy, Debug, PartialEq, Eq)]
+pub struct Generator {
+    pub x: u32,
 }
 
-// The number that follows x.
-pub fn next(x: u32) -> u32
-    ensures { result ≡ Draw·next x }
-{
-    wrapping_add_u32(wrapping_multiply(MULTIPLIER, x), INCREMENT)
-}
-
-// The draw of a number that a step has led to.
-pub fn draw(x: u32) -> u32
-    ensures { result ≡ Draw·draw x }
-{
-    x / 65536
+impl Generator {
+    // Steps to the number that follows, and answers its draw.
+    pub fn draw(&mut self) -> u32
+        ensures number { self.new.x ≡ Draw·next self.old.x }
+        ensures draw { result ≡ Draw·draw (Draw·next self.old.x) }
+    {
+        self.x = self.x.wrapping_mul(MULTIPLIER).wrapping_add(INCREMENT);
+        self.x / 65536
+    }
 }

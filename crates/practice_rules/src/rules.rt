@@ -1,11 +1,10 @@
 // The rules body of a practice sheet: rule 0, the rules that are drawn, and the last rule.
 ghost use Rattle.std.specs.Prelude.{◌≡◌, ◌+◌, ◌%◌, ◌<◌, ◌≤◌, length, take};
 ghost use Rattle.terms.specs.Sheet.{written_rules};
-ghost use Rattle.practice_terms.specs.Draw.{draw as Draw·draw};
 ghost use Rattle.practice_terms.specs.Practice.{practice_rules};
 ghost use Rattle.practice_rules.specs.Drawn.{Drawn};
 
-use crate::generator::{draw, next};
+use crate::generator::Generator;
 use checks::bytes::copy_at;
 use nodes::name::{FIRST_PARAMETER, FIRST_RULE};
 
@@ -32,44 +31,30 @@ const MOST_DRAWN_LENGTH: usize = 6;
 // The longest rules body.
 pub const LONGEST_RULES: usize = FIRST_LENGTH + MOST_DRAWN_LENGTH * MOST_DRAWN + LAST_LENGTH;
 
-// How far the rules are drawn: the number that the generator has come to, and where the bytes end.
-#[derive(Clone, Copy)]
-pub struct Progress {
-    pub x: u32,
-    pub end: usize,
-}
-
-// The node that calls the rule which the draw of x names: one of the rules below i.
-fn call(x: u32, i: usize) -> u8
+// The node that calls the rule which a draw names: one of the rules below i.
+fn call(drawn: u32, i: usize) -> u8
     requires { (0 < i) × (i ≤ 20) }
-    ensures { result ≡ 0x40 + Draw·draw x % i }
+    ensures { result ≡ 0x40 + drawn % i }
 {
-    FIRST_RULE + (draw(x) as usize % i) as u8
+    FIRST_RULE + (drawn as usize % i) as u8
 }
 
-// Draws rule i and writes it at a place.
-fn write_drawn(x: u32, i: usize, rules: &mut [u8], at: usize) -> Progress
+// Draws rule i and writes it at a place; the answer is where it ends.
+fn write_drawn(generator: &mut Generator, i: usize, rules: &mut [u8], at: usize) -> usize
     requires { (0 < i) × (i ≤ 20) × (at + 6 ≤ length rules.old) }
-    ensures { Drawn x i at result rules.new rules.old }
+    ensures { Drawn generator.old.x i at generator.new.x result rules.new rules.old }
 {
-    let for_kind = next(x);
-    let for_j = next(for_kind);
-    let j = call(for_j, i);
-    if draw(for_kind) % 2 == 0 {
+    let even = generator.draw() % 2 == 0;
+    let j = call(generator.draw(), i);
+    if even {
         // Rank, node count, and call j on call k on y1.
-        let for_k = next(for_j);
-        copy_at(&[1, 3, j, call(for_k, i), FIRST_PARAMETER], rules, at);
-        return Progress {
-            x: for_k,
-            end: at + 5,
-        };
+        let k = call(generator.draw(), i);
+        copy_at(&[1, 3, j, k, FIRST_PARAMETER], rules, at);
+        return at + 5;
     }
     // Rank, node count, and f(call j on y1, a).
     copy_at(&[1, 4, F, j, FIRST_PARAMETER, A], rules, at);
-    Progress {
-        x: for_j,
-        end: at + 6,
-    }
+    at + 6
 }
 
 // Writes the rules body of a first x and m at the beginning of a slice, and answers its length.
@@ -78,15 +63,11 @@ pub fn write_rules(first: u32, m: usize, rules: &mut [u8]) -> usize
     ensures { (result ≡ length (written_rules (practice_rules first m))) × (take result rules.new ≡ written_rules (practice_rules first m)) }
 {
     copy_at(&[1, 2, H, FIRST_PARAMETER], rules, 0);
-    let mut progress = Progress {
-        x: first,
-        end: FIRST_LENGTH,
-    };
-    let mut i = 1;
-    while i <= m {
-        progress = write_drawn(progress.x, i, rules, progress.end);
-        i += 1;
+    let mut generator = Generator { x: first };
+    let mut end = FIRST_LENGTH;
+    for i in 1..=m {
+        end = write_drawn(&mut generator, i, rules, end);
     }
-    copy_at(&[0, 2, FIRST_RULE + m as u8, A], rules, progress.end);
-    progress.end + LAST_LENGTH
+    copy_at(&[0, 2, FIRST_RULE + m as u8, A], rules, end);
+    end + LAST_LENGTH
 }

@@ -7,7 +7,7 @@ use Rattle.terms.specs.Sheet.{transitions_of}
 use Rattle.terms.specs.FormBytes.{table_count, table_rule, table_rules}
 use Rattle.form_bytes.specs.declared.rule.FormRule.{FormRule}
 use Rattle.form_bytes.specs.Fields.{fields_at}
-use Rattle.entries.specs.Evaluable.{entry_in}
+use Rattle.entries.specs.Entries.{entry_in}
 use Rattle.adding_terms.specs.Adding.{redone}
 
 -- the flag of rule i, none where there is no such rule

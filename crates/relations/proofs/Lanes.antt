@@ -15,7 +15,7 @@ use Rattle.terms.specs.Relation.{matrix, related}
 use Rattle.terms.proofs.Test.{same_test, equal}
 use Rattle.terms.proofs.Automaton.Bits.{power_has, power_only}
 use Rattle.terms.proofs.Automaton.Relation.{matrix_cong}
-use Rattle.relations.specs.Spread.{spread, Spreads}
+use Rattle.relations.specs.Spread.{spread}
 use Rattle.relations.proofs.Laws.{has_shr, has-low}
 use Rattle.terms.proofs.Tabulate.{get_d_tabulate}
 use Rattle.relations.proofs.Matrix.{matrix-bits}
@@ -86,15 +86,13 @@ lanes_spread s =
     sym (mul-one (lanes 8 s)) ∙ lanes_times 1 (omega arith) s
     ∙ matrix_cong (λ p q. has s p && has 1 q) (λ p q. has s p && eqb q 0) (λ p q hp hq. ap (λ (t : Bool). has s p && t) (one_has q))
 
--- the low eight bits of two numbers, by a table of all spreads
-pub table_times : (table : List ℕ) → Spreads table → (s t : ℕ) → get_or table (s % 256) 0 * (t % 256) ≡ matrix (λ p q. has s p && has t q)
-unfolding Spreads
-table_times table e s t =
-    ap (λ (z : ℕ). z * (t % 256)) (e (s % 256) (omega arith) ∙ sym (lanes_spread (s % 256))) ∙ lanes_times (t % 256) (omega arith) (s % 256)
+-- the low eight bits of two numbers, the first spread
+pub spread-times : (s t : ℕ) → spread (s % 256) * (t % 256) ≡ matrix (λ p q. has s p && has t q)
+spread-times s t =
+    ap (λ (z : ℕ). z * (t % 256)) (sym (lanes_spread (s % 256))) ∙ lanes_times (t % 256) (omega arith) (s % 256)
     ∙ matrix_cong (λ p q. has (s % 256) p && has (t % 256) q) (λ p q. has s p && has t q)
     (λ p q hp hq. ap₂ (λ (a b : Bool). a && b) (has-low s 8 p hp) (has-low t 8 q hq))
 
--- a table that is computed to be right at every set
-pub all-spreads : (table : List ℕ) → table ≡ tabulate 256 (lanes 8) → Spreads table
-unfolding Spreads
+-- a table that is computed to be right has the spread of each set of eight states
+pub all-spreads : (table : List ℕ) → table ≡ tabulate 256 (lanes 8) → (s : ℕ) → s < 256 → get_or table s 0 ≡ spread s
 all-spreads table e s h = ap (λ (l : List ℕ). get_or l s 0) e ∙ get_d_tabulate 256 (lanes 8) 0 s h ∙ lanes_spread s

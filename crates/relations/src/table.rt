@@ -1,8 +1,9 @@
-// The table of 256 that spreads a set of states over eight lanes.
-ghost use Rattle.relations.specs.Spread.{Spreads};
+// A set of states spread over eight lanes, by a table of 256.
+ghost use Rattle.std.specs.Prelude.{◌≡◌};
+ghost use Rattle.relations.specs.Spread.{spread};
 
 // Entry s has bit 8 * i where s has bit i.
-const SPREAD: [u64; 256] = [
+static SPREAD: [u64; 256] = [
     0,
     1,
     256,
@@ -261,9 +262,9 @@ const SPREAD: [u64; 256] = [
     72340172838076673,
 ];
 
-// The table by value. A constant array is stored anew at each use: the outermost call stores it once, and lends it.
-pub fn spread_table() -> [u64; 256]
-    ensures { Spreads result }
+// The states of a set, each as the lowest bit of its own lane.
+pub fn spread(states: u8) -> u64
+    ensures { result ≡ spread states }
 {
-    SPREAD
+    SPREAD[states as usize]
 }

@@ -9,7 +9,7 @@ use Rattle.terms.specs.Tree.{preorder}
 use Rattle.terms.specs.Sheet.{alphabet_of, sheet_tree}
 use Rattle.terms.specs.Check.{sheet_refusal}
 use Rattle.terms.specs.FormBytes.{rule_count, form_tree}
-use Rattle.terms.specs.Answer.{Answer, refused, answered, answer_of_length}
+use Rattle.terms.specs.Answer.{Answer, refused, answered, answer_of}
 use Rattle.terms.specs.Calls.{form_asked, counts_per_rule, unfolding_refusal}
 use Rattle.terms.specs.Demand.{FormOfSheet, Demand3}
 use Rattle.terms.proofs.Demand.{form_meets}
@@ -33,7 +33,7 @@ module _ (alphabet sheet tree : List ℕ) (is : SheetOf sheet alphabet tree) (r 
   size = ap length is.tree-given
 
   module _ (n : ℕ) (formed : FormOfSheet sheet (take n left.form))
-      (u : Unfolded alphabet (take n left.form) (answer_of_length r.unfolded) left.counts lent.counts left.tree lent.tree) where
+      (u : Unfolded alphabet (take n left.form) (answer_of r.unfolded) left.counts lent.counts left.tree lent.tree) where
     abbrev form : List ℕ
     form = take n left.form
 
@@ -47,14 +47,14 @@ module _ (alphabet sheet tree : List ℕ) (is : SheetOf sheet alphabet tree) (r 
       unfolding_passes : unfolding_refusal alphabet form (length lent.counts) (length lent.tree) ≡ 0
       unfolding_passes = rw is.alphabet-given at (demand.unfolded (length lent.counts) (length lent.tree) counts (omega (arith, size)))
 
-      nodes-written : answer_of_length r.unfolded ≡ answered (length tree)
+      nodes-written : answer_of r.unfolded ≡ answered (length tree)
       nodes-written = unfolds u (sheet_tree sheet) derives unfolding_passes ∙ ap answered size
 
       tree-written : take (length tree) left.tree ≡ tree
       tree-written = rw (← size) (tree-first u (sheet_tree sheet) derives unfolding_passes ∙ is.tree-given)
 
-  by_answer : (m : Answer ℕ) → answer_of_length r.made ≡ m → Makes sheet m left.form lent.form
-      → UnfoldedFrom alphabet m left.form (answer_of_length r.unfolded) left.counts lent.counts left.tree lent.tree → TreeBack tree r lent left
+  by_answer : (m : Answer ℕ) → answer_of r.made ≡ m → Makes sheet m left.form lent.form
+      → UnfoldedFrom alphabet m left.form (answer_of r.unfolded) left.counts lent.counts left.tree lent.tree → TreeBack tree r lent left
   by_answer (refused n) e k u = absurd (none-refused k refl ((just_enough sheet is.passes).makes (length lent.form) room))
   by_answer (answered n) e k u =
       let formed = (wrote k refl).formed in
@@ -63,8 +63,8 @@ module _ (alphabet sheet tree : List ℕ) (is : SheetOf sheet alphabet tree) (r 
   by_calls : RestoringCalls alphabet 0 sheet r lent left → TreeBack tree r lent left
   by_calls c =
       let s : take (length sheet) left.sheet ≡ sheet = rw c.writes (take-append_seam sheet _) in
-      let m = rw s at (subst (λ (x : Answer ℕ). MadeFrom x left.sheet (answer_of_length r.made) left.form lent.form) c.answers c.makes) in
-      by_answer (answer_of_length r.made) refl m c.unfolds
+      let m = rw s at (subst (λ (x : Answer ℕ). MadeFrom x left.sheet (answer_of r.made) left.form lent.form) c.answers c.makes) in
+      by_answer (answer_of r.made) refl m c.unfolds
 
 -- where n is what writing the sheet is refused by
 pub calls_restore : (alphabet : List ℕ) (n : ℕ) (sheet tree : List ℕ) → (n ≡ 0 → SheetOf sheet alphabet tree) → (r : Restoring) (lent left : RestoringSlices)

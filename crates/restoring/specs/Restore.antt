@@ -1,7 +1,7 @@
 -- What writing a sheet, making the form of what was written and unfolding it answer and leave (document 01, demand 2, and document 02, R-2).
 use Rattle.std.specs.Prelude.{◌≡◌, List, ℕ, ◌*◌, ◌≤◌, length, take}
 use Rattle.terms.specs.FormBytes.{rule_count}
-use Rattle.terms.specs.Answer.{Answer, refused, answered, answer, answer_of_length}
+use Rattle.terms.specs.Answer.{Answer, refused, answered, answer, answer_of}
 use Rattle.terms.specs.Calls.{lent_after, form_asked, counts_per_rule}
 use Rattle.making.specs.Making.{Makes}
 use Rattle.unfolding.specs.Unfolding.{Unfolded}
@@ -31,19 +31,19 @@ restoring_slices sheet form counts tree = record { sheet = sheet; form = form; c
 
 -- the three calls, where n is what writing the sheet is refused by (01 Size, label, wrap; 02 R-2)
 pub record RestoringCalls (alphabet : List ℕ) (n : ℕ) (sheet : List ℕ) (r : Restoring) (lent left : RestoringSlices) : Type 0 where
-  pub answers : answer_of_length r.written ≡ answer n (length sheet)
+  pub answers : answer_of r.written ≡ answer n (length sheet)
   pub writes : left.sheet ≡ lent_after n sheet lent.sheet
-  pub makes : MadeFrom (answer_of_length r.written) left.sheet (answer_of_length r.made) left.form lent.form
-  pub unfolds : UnfoldedFrom alphabet (answer_of_length r.made) left.form (answer_of_length r.unfolded) left.counts lent.counts left.tree lent.tree
+  pub makes : MadeFrom (answer_of r.written) left.sheet (answer_of r.made) left.form lent.form
+  pub unfolds : UnfoldedFrom alphabet (answer_of r.made) left.form (answer_of r.unfolded) left.counts lent.counts left.tree lent.tree
 
 -- What is claimed of them.
 
 -- the form is made, of so many bytes, and what is written last is the tree, with 2 · R numbers and as many bytes as the tree has nodes lent (01 demand 2)
 pub record TreeBack (tree : List ℕ) (r : Restoring) (lent left : RestoringSlices) : Type 0 where
   pub bytes : ℕ
-  pub made : answer_of_length r.made ≡ answered bytes
+  pub made : answer_of r.made ≡ answered bytes
   pub back : counts_per_rule * rule_count (take bytes left.form) ≤ length lent.counts → length tree ≤ length lent.tree
-      → (answer_of_length r.unfolded ≡ answered (length tree)) × (take (length tree) left.tree ≡ tree)
+      → (answer_of r.unfolded ≡ answered (length tree)) × (take (length tree) left.tree ≡ tree)
 
 -- the last sentence of demand 2, and of R-2, for every sheet that is not refused where it is written, with 5 + T + 12 · sum form bytes lent, whatever the slices held
 -- before (01 demand 2; 02 R-2, R-6)

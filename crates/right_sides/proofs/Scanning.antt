@@ -5,7 +5,7 @@ use Prim.Native.Nat.{ℕ, zero, suc, ◌+◌, ◌*◌, ◌-◌, ◌≤◌, ◌<�
 use native.Mathlib.Omega.{arith}
 use lib.Dec.{T, ltb→lt}
 use lib.ListN.{length, get_or, drop, take, set, length-drop, length-set}
-use lib.Seq.{drop-cons, get_or-drop, drop-drop, drop-set-lt, get_or-set_same, take_all}
+use lib.Seq.{drop-cons, get_or-drop, drop-drop, drop-set-lt, get_or-set_same, length-take-le}
 use Rattle.terms.specs.Tree.{exactly, taking, wholes}
 use Rattle.terms.specs.Grammar.{Name, terminal, nonterminal, parameter, nothing, name, rule_rank, name_rank, rank_in, allowed, sum_over}
 use Rattle.terms.specs.Form.{share, side_bound}
@@ -19,11 +19,11 @@ use Rattle.skeletons.specs.Make.{Mades, name-made}
 use Rattle.skeletons.specs.Scan.{top, pop, turn, scan}
 use Rattle.skeletons.specs.Skeleton.{size, weight}
 use Rattle.cells.specs.Cells.{Stands, Row}
-use Rattle.cells.specs.State.{Room, Grown, Stood}
+use Rattle.cells.specs.Builder.{Room, Grown, Stood}
+use Rattle.cells.specs.declared.builder.FormBuilder.{FormBuilder}
+use Rattle.cells.specs.declared.cells.Cell.{Cell}
 use Rattle.contraction.specs.Substitution.{Bounded, StoodRow}
 use Rattle.right_sides.specs.Side.{NodeReady, NodeMade, RightSide, side_made}
-use Rattle.cells.specs.declared.state.Free.{Free}
-use Rattle.cells.specs.declared.state.Made.{Made}
 use Rattle.nodes.specs.Nodes.{ruled_by, HasRank}
 use Rattle.nodes.proofs.Node as node
 use Rattle.cells.proofs.Standing.{row_at}
@@ -41,11 +41,11 @@ size-pop zero ss = omega arith
 size-pop (suc k) nil = omega arith
 size-pop (suc k) (cons s ss) = omega (arith, size-pop k ss)
 
-module _ (cells : List ℕ) (limit : ℕ) where
-  row-top : (k : ℕ) (xs : List ℕ) (ss : Skeletons) → Row cells limit xs ss → Row cells limit xs (top k ss)
+module _ (cells : List Cell) (limit : ℕ) where
+  row-top : (k : ℕ) (xs : List ℕ) (ss : Skeletons) → Row cells limit xs ss → Row cells limit (take k xs) (top k ss)
   row-top zero xs ss p = tt
   row-top (suc k) xs nil p = tt
-  row-top (suc k) [] (cons s ss) p = p
+  row-top (suc k) [] (cons s ss) p = absurd p
   row-top (suc k) (x ∷ xs) (cons s ss) p = (p.0, p.1, row-top k xs ss p.2)
 
   row-pop : (k : ℕ) (xs : List ℕ) (ss : Skeletons) → Row cells limit xs ss → Row cells limit (drop k xs) (pop k ss)
@@ -54,7 +54,7 @@ module _ (cells : List ℕ) (limit : ℕ) where
   row-pop (suc k) [] (cons s ss) p = absurd p
   row-pop (suc k) (x ∷ xs) (cons s ss) p = row-pop k xs ss p.2
 
-module _ {table₀ space₀ : List ℕ} {free₀ : Free} {alphabet ranks roots nodes : List ℕ} (g : RightSide table₀ space₀ free₀ alphabet ranks roots nodes) where
+module _ {b₀ : FormBuilder} {alphabet ranks roots nodes : List ℕ} (g : RightSide b₀ alphabet ranks roots nodes) where
   abbrev rank_of : ℕ → ℕ
   rank_of = rank_in alphabet g.rules
 
@@ -62,15 +62,15 @@ module _ {table₀ space₀ : List ℕ} {free₀ : Free} {alphabet ranks roots n
   abbrev after : ℕ → Mades
   after left = scan rank_of g.skeleton (drop left nodes) g.made
 
-  pub record Scanning (left low : ℕ) (table space : List ℕ) (free : Free) (stack : List ℕ) : Type 0 where
+  pub record Scanning (left low : ℕ) (b : FormBuilder) (stack : List ℕ) : Type 0 where
     pub upto : left ≤ length nodes
     pub long : length stack ≡ most_nodes
-    pub stood : StoodRow (after left) table space free (drop low stack)
+    pub stood : StoodRow (after left) b (drop low stack)
     pub depth : size (after left).made + low ≡ most_nodes
     pub whole : wholes rank_of (drop left nodes) ≡ exactly (size (after left).made)
     pub shallow : size (after left).made + left ≤ length nodes
-    pub grown : Grown (side_bound g.rules (drop left nodes)) (4 * (length nodes - left)) table₀ space₀ free₀ table space free
-    pub few-cells : free.cell + 3 * size (after left).made ≤ free₀.cell + 4 * (length nodes - left)
+    pub grown : Grown (side_bound g.rules (drop left nodes)) (4 * (length nodes - left)) b₀ b
+    pub few-cells : b.next_cell + 3 * size (after left).made ≤ b₀.next_cell + 4 * (length nodes - left)
 
   nothing_left : (left : ℕ) → left ≡ length nodes → drop left nodes ≡ []
   nothing_left left e = rw e (drop_all nodes)
@@ -79,7 +79,7 @@ module _ {table₀ space₀ : List ℕ} {free₀ : Free} {alphabet ranks roots n
       drop_all [] = refl
       drop_all (x ∷ xs) = drop_all xs
 
-  pub scan-none : (left low : ℕ) (stack : List ℕ) → left ≡ length nodes → low ≡ most_nodes → length stack ≡ most_nodes → Scanning left low table₀ space₀ free₀ stack
+  pub scan-none : (left low : ℕ) (stack : List ℕ) → left ≡ length nodes → low ≡ most_nodes → length stack ≡ most_nodes → Scanning left low b₀ stack
   unfolding scan wholes
   scan-none left low stack e z long =
       let n = nothing_left left e in
@@ -95,9 +95,9 @@ module _ {table₀ space₀ : List ℕ} {free₀ : Free} {alphabet ranks roots n
       }
 
   -- one node
-  module _ (left : ℕ) {left₀ low : ℕ} {table space : List ℕ} {free : Free} {stack : List ℕ} (e : left₀ ≡ suc left) (s' : Scanning left₀ low table space free stack) where
-    s : Scanning (suc left) low table space free stack
-    s = subst (λ (n : ℕ). Scanning n low table space free stack) e s'
+  module _ (left : ℕ) {left₀ low : ℕ} {b : FormBuilder} {stack : List ℕ} (e : left₀ ≡ suc left) (s' : Scanning left₀ low b stack) where
+    s : Scanning (suc left) low b stack
+    s = subst (λ (n : ℕ). Scanning n low b stack) e s'
 
     abbrev f : ℕ
     f = get_or nodes left 0
@@ -108,8 +108,9 @@ module _ {table₀ space₀ : List ℕ} {free₀ : Free} {alphabet ranks roots n
     abbrev m : Mades
     m = after (suc left)
 
+    -- the cells that the node takes
     abbrev xs : List ℕ
-    xs = drop low stack
+    xs = take k (drop low stack)
 
     split : drop left nodes ≡ f ∷ drop (suc left) nodes
     split = drop-cons nodes left 0 (omega (arith, s.upto))
@@ -166,25 +167,27 @@ module _ {table₀ space₀ : List ℕ} {free₀ : Free} {alphabet ranks roots n
         go nothing h = omega arith
 
     -- there is room for what the node makes
-    room-here : Room (adds (name f)) (1 + 3 * k) table space free
+    room-here : Room (adds (name f)) (1 + 3 * k) b
     room-here = record {
       fits = omega (arith, g.room.fits, s.grown.few-rules, s.grown.long, bound_split, sum_over_drop adds left nodes);
       numbers = omega (arith, g.room.numbers, s.grown.few-rules, bound_split, sum_over_drop adds left nodes);
-      all = s.grown.all ∙ g.room.all;
       left = omega (arith, g.room.left, s.few-cells, s.upto, enough);
     }
 
     weighs : (r : ℕ) → r < g.number → rule_rank g.rules r ≡ k → weight (g.skeleton r) ≤ 1 + 3 * k
     weighs r h q = omega (arith, g.known.light r h, rule-rank r h)
 
-    root_stands : (r : ℕ) → r < g.number → Stands space (get_or roots r 0) (g.skeleton r)
+    root_stands : (r : ℕ) → r < g.number → Stands b.cells (get_or roots r 0) (g.skeleton r)
     root_stands r h = grown-stands s.grown (get_or roots r 0) (g.skeleton r) (g.known.lower r h) (g.known.stands r h)
 
-    taken-row : Row space free.cell xs (top k m.made)
-    taken-row = row-top space free.cell k xs m.made s.stood.row
+    taken-row : Row b.cells b.next_cell xs (top k m.made)
+    taken-row = row-top b.cells b.next_cell k (drop low stack) m.made s.stood.row
 
     taken-size : size (top k m.made) ≡ k
     taken-size = size_top k m.made enough
+
+    taken-long : length xs ≡ k
+    taken-long = length-take-le k (drop low stack) (omega (arith, length-drop low stack, s.long, s.depth, enough))
 
     fitting : (r : ℕ) → r < g.number → rule_rank g.rules r ≡ k → Bounded (size (top k m.made)) (g.skeleton r)
     fitting r h q = subst (λ (n : ℕ). Bounded n (g.skeleton r)) (q ∙ sym taken-size) (g.known.bounded r h)
@@ -192,18 +195,17 @@ module _ {table₀ space₀ : List ℕ} {free₀ : Free} {alphabet ranks roots n
     own-parameter : (j : ℕ) → T (allowed alphabet g.number (rule_rank g.rules g.number) (parameter j)) → j < 4
     own-parameter j h = omega (arith, ltb→lt j (rule_rank g.rules g.number) h, (g.proper.proper g.number g.inside).rank)
 
-    pub ready : NodeReady table space free roots k xs (name f)
+    pub ready : NodeReady b roots xs (name f)
     unfolding rank_in
     ready = go (name f) named refl room-here
       where
         go : (x : Name) → T (allowed alphabet g.number (rule_rank g.rules g.number) x) → name_rank alphabet g.rules x ≡ k
-            → Room (adds x) (1 + 3 * k) table space free → NodeReady table space free roots k xs x
+            → Room (adds x) (1 + 3 * k) b → NodeReady b roots xs x
         go (terminal a) h q room = (
           room_less (omega arith) (omega arith) room,
           record {
-            few = node-low;
-            there = omega (arith, length-drop low stack, s.long, s.depth, enough);
-            each = λ j l. (row_at space free.cell xs m.made s.stood.row j (omega (arith, enough))).0;
+            few = omega (arith, taken-long, node-low);
+            each = λ j l. (row_at b.cells b.next_cell xs (top k m.made) taken-row j (omega (arith, taken-long, taken-size))).0;
           },
         )
         go (nonterminal r) h q room =
@@ -227,22 +229,21 @@ module _ {table₀ space₀ : List ℕ} {free₀ : Free} {alphabet ranks roots n
     abbrev taking_these : Mades
     taking_these = record { rules = m.rules; made = top k m.made }
 
-    record NodeDone (table' space' : List ℕ) (r : Made) : Type 0 where
-      pub grown : Grown (adds (name f)) (1 + 3 * k) table space free table' space' r.free
-      pub stood : Stood (name-made g.skeleton (name f) taking_these) table' space' r
+    record NodeDone (b' : FormBuilder) (cell : ℕ) : Type 0 where
+      pub grown : Grown (adds (name f)) (1 + 3 * k) b b'
+      pub stood : Stood (name-made g.skeleton (name f) taking_these) b' cell
 
-    done : (table' space' : List ℕ) (r : Made) → NodeMade table space free roots k xs (name f) table' space' r → NodeDone table' space' r
+    done : (b' : FormBuilder) (cell : ℕ) → NodeMade b roots xs (name f) b' cell → NodeDone b' cell
     unfolding rank_in name-made
-    done table' space' r made =
+    done b' cell made =
         let d = go (name f) named refl made in
         record { grown = d.0; stood = d.1 }
       where
         go : (x : Name) → T (allowed alphabet g.number (rule_rank g.rules g.number) x) → name_rank alphabet g.rules x ≡ k
-            → NodeMade table space free roots k xs x table' space' r
-            → Grown (adds x) (1 + 3 * k) table space free table' space' r.free × Stood (name-made g.skeleton x taking_these) table' space' r
+            → NodeMade b roots xs x b' cell → Grown (adds x) (1 + 3 * k) b b' × Stood (name-made g.skeleton x taking_these) b' cell
         go (terminal a) h q made = (
           grown_less (omega arith) (omega arith) made.grown,
-          made.stood m.rules (top k m.made) s.stood.held s.stood.counted taken-row taken-size,
+          made.stood m.rules (top k m.made) s.stood.held s.stood.counted taken-row (taken-size ∙ sym taken-long),
         )
         go (nonterminal n) h q made =
             let l = ltb→lt n g.number h in (
@@ -250,7 +251,7 @@ module _ {table₀ space₀ : List ℕ} {free₀ : Free} {alphabet ranks roots n
               made.stood m.rules (g.skeleton n) (top k m.made) s.stood.held s.stood.counted (root_stands n l) taken-row (fitting n l q),
             )
         go (parameter j) h q made =
-            rw (made.rules, made.cells, made.made) (
+            rw (made.kept, made.cell) (
               grown-none,
               record {
                 held = s.stood.held;
@@ -269,22 +270,21 @@ module _ {table₀ space₀ : List ℕ} {free₀ : Free} {alphabet ranks roots n
     low_enough = (omega (arith, s.depth, s.shallow, g.few), omega (arith, s.depth, enough))
 
     -- the stack after the node
-    pub scan-more : (table' space' : List ℕ) (r : Made) → NodeMade table space free roots k xs (name f) table' space' r → (low' : ℕ) → low' ≡ low + k - 1
-        → Scanning left low' table' space' r.free (set stack low' r.cell)
+    pub scan-more : (b' : FormBuilder) (cell : ℕ) → NodeMade b roots xs (name f) b' cell → (low' : ℕ) → low' ≡ low + k - 1 → Scanning left low' b' (set stack low' cell)
     unfolding turn
-    scan-more table' space' r made low' at =
-        let d = done table' space' r made in
+    scan-more b' cell made low' at =
+        let d = done b' cell made in
         let n : suc low' ≡ low + k = omega (arith, low_enough) in
         let inside : low' < length stack = omega (arith, s.long, low_enough) in
-        let pushed : drop low' (set stack low' r.cell) ≡ r.cell ∷ drop k xs =
-        drop-cons (set stack low' r.cell) low' 0 (omega (arith, length-set stack low' r.cell))
-        ∙ rw (get_or-set_same stack low' r.cell 0 inside, drop-set-lt (suc low') stack low' r.cell (omega arith), n, drop-drop k low stack) in
-        let below = grown_rows d.grown (drop k xs) (pop k m.made) (row-pop space free.cell k xs m.made s.stood.row) in
+        let pushed : drop low' (set stack low' cell) ≡ cell ∷ drop k (drop low stack) =
+        drop-cons (set stack low' cell) low' 0 (omega (arith, length-set stack low' cell))
+        ∙ rw (get_or-set_same stack low' cell 0 inside, drop-set-lt (suc low') stack low' cell (omega arith), n, drop-drop k low stack) in
+        let below = grown_rows d.grown (drop k (drop low stack)) (pop k m.made) (row-pop b.cells b.next_cell k (drop low stack) m.made s.stood.row) in
         let sized = size-pop k m.made in
-        let few : r.free.cell + 3 * suc (size (pop k m.made)) ≤ free₀.cell + 4 * (length nodes - left) = omega (arith, d.grown.few-cells, s.few-cells, s.upto, enough) in
+        let few : b'.next_cell + 3 * suc (size (pop k m.made)) ≤ b₀.next_cell + 4 * (length nodes - left) = omega (arith, d.grown.few-cells, s.few-cells, s.upto, enough) in
         record {
           upto = omega (arith, s.upto);
-          long = length-set stack low' r.cell ∙ s.long;
+          long = length-set stack low' cell ∙ s.long;
           stood = rw (turned, pushed) record { held = d.stood.held; counted = d.stood.counted; row = (d.stood.lower, d.stood.stands, below) };
           depth = rw turned (omega (arith, s.depth, enough, low_enough));
           whole = trees.1 ∙ rw turned (ap exactly (omega (arith, trees.3)));
@@ -298,23 +298,26 @@ module _ {table₀ space₀ : List ℕ} {free₀ : Free} {alphabet ranks roots n
       pub rank-read : n ≡ k
       rank-read = ranked ∙ ap (name_rank alphabet (ruled_by ranks)) called ∙ node-rank
 
-      pub ready_as : (ys : List ℕ) → ys ≡ xs → NodeReady table space free roots n ys x
-      ready_as ys e = rw (rank-read, e, called) ready
+      pub children-fit : low + n ≤ length stack
+      children-fit = omega (arith, rank-read, s.long, low_enough)
 
-      pub scan_more_as : (ys : List ℕ) → ys ≡ xs → (table' space' : List ℕ) (r : Made) → NodeMade table space free roots n ys x table' space' r
-          → (low' : ℕ) → low' ≡ low + n - 1 → Scanning left low' table' space' r.free (set stack low' r.cell)
-      scan_more_as ys e table' space' r made low' at = scan-more table' space' r (rw (rank-read, e, called) at made) low' (rw rank-read at at)
+      taken-here : (ys : List ℕ) → ys ≡ take (low + n - low) (drop low stack) → ys ≡ xs
+      taken-here ys e = e ∙ ap (λ (c : ℕ). take c (drop low stack)) (omega (arith, rank-read))
+
+      pub ready_as : (ys : List ℕ) → ys ≡ take (low + n - low) (drop low stack) → NodeReady b roots ys x
+      ready_as ys e = rw (taken-here ys e, called) ready
+
+      pub scan_more_as : (ys : List ℕ) → ys ≡ take (low + n - low) (drop low stack) → (b' : FormBuilder) (cell : ℕ) → NodeMade b roots ys x b' cell
+          → (low' : ℕ) → low' ≡ low + n - 1 → Scanning left low' b' (set stack low' cell)
+      scan_more_as ys e b' cell made low' at = scan-more b' cell (rw (taken-here ys e, called) at made) low' (rw rank-read at at)
 
   -- all nodes
-  pub scan-all : {left low : ℕ} {table space : List ℕ} {free : Free} {stack : List ℕ} → left ≡ 0 → Scanning left low table space free stack
-      → (low < most_nodes) × Grown (side_bound g.rules nodes) (4 * length nodes) table₀ space₀ free₀ table space free × Stood (side_made g) table space (record { free = free; cell = get_or stack low 0 })
-  scan-all {left} {low} {table} {space} {free} {stack} z s' =
-      let s : Scanning 0 low table space free stack = subst (λ (n : ℕ). Scanning n low table space free stack) z s' in
+  pub scan-all : {left low : ℕ} {b : FormBuilder} {stack : List ℕ} → left ≡ 0 → Scanning left low b stack
+      → (low < most_nodes) × Grown (side_bound g.rules nodes) (4 * length nodes) b₀ b × Stood (side_made g) b (get_or stack low 0)
+  scan-all {left} {low} {b} {stack} z s' =
+      let s : Scanning 0 low b stack = subst (λ (n : ℕ). Scanning n low b stack) z s' in
       let w : exactly (size (after 0).made) ≡ exactly 1 = sym s.whole ∙ rw g.rule_nodes (g.proper.proper g.number g.inside).whole in
       let one : size (after 0).made ≡ 1 = cc in
-      let a = row_at space free.cell (drop low stack) (after 0).made s.stood.row 0 (omega arith) in
+      let a = row_at b.cells b.next_cell (drop low stack) (after 0).made s.stood.row 0 (omega arith) in
       let at : get_or (drop low stack) 0 0 ≡ get_or stack low 0 = get_or-drop low stack 0 0 ∙ ap (λ n. get_or stack n 0) (omega arith) in
       (omega (arith, s.depth), grown_less (omega arith) (omega arith) s.grown, record { held = s.stood.held; counted = s.stood.counted; lower = rw at at a.0; stands = rw at at a.1 })
-
-pub whole_part : (stack : List ℕ) (low : ℕ) → length stack ≡ most_nodes → take (most_nodes - low) (drop low stack) ≡ drop low stack
-whole_part stack low e = take_all (most_nodes - low) (drop low stack) (omega (arith, length-drop low stack))

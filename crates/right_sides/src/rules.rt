@@ -2,10 +2,9 @@
 ghost use Rattle.right_sides.specs.Rules.{Grammar, RulesMade};
 
 use crate::side::right_side;
-use cells::cells::{SPACE, closed_rule, write_parameters};
-use cells::state::Free;
+use cells::builder::FormBuilder;
 use checks::limits::MOST_RULES;
-use grammars::cursor::span_at;
+use grammars::cursor::RulesOf;
 use terms::Rule;
 
 // How many rules a form has, as the number of the rule that would be next, and its start.
@@ -20,36 +19,16 @@ pub fn make_rules(table: &mut [u8], alphabet: &[u8], body: &[u8], rules: usize) 
     requires { Grammar table.old alphabet.now body.now rules }
     ensures { RulesMade table.old alphabet.now body.now table.new result }
 {
-    let mut cells = [0u16; SPACE];
-    write_parameters(&mut cells);
-    let mut free = Free {
-        rule: Rule(0),
-        cell: 4,
-    };
+    let mut builder = FormBuilder::new(table);
     let mut ranks = [0u8; MOST_RULES];
-    let mut roots = [0u16; MOST_RULES];
-    let mut at = 0;
-    let mut rule = Rule(0);
-    while (rule.0 as usize) < rules {
-        let span = span_at(body, at);
-        let start = span.start;
-        let end = span.end;
-        let made = right_side(
-            table,
-            &mut cells,
-            free,
-            alphabet,
-            &ranks,
-            &roots,
-            &body[start..end],
-        );
-        ranks[rule.0 as usize] = span.rank;
-        roots[rule.0 as usize] = made.cell;
-        free = made.free;
-        at = end;
-        rule = Rule(rule.0 + 1);
+    let mut roots = [0; MOST_RULES];
+    for (i, rule) in (RulesOf { body }).enumerate() {
+        roots[i] = right_side(&mut builder, alphabet, &ranks, &roots, rule.nodes);
+        ranks[i] = rule.rank;
     }
-    let start = closed_rule(&cells, roots[rules - 1]);
-    let count = free.rule;
-    Whole { count, start }
+    let start = builder.cell(roots[rules - 1]).slot();
+    Whole {
+        count: builder.next_rule,
+        start,
+    }
 }

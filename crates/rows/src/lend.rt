@@ -1,44 +1,33 @@
 // What calls are lent: slices that are filled beforehand, so that it shows what a call writes.
-ghost use Rattle.std.specs.Prelude.{◌+◌, ◌≤◌, length};
 
 // The longest slices that are lent. The bytes are as many as the longest form has: 5 + 32 + 12 · 2,048.
 pub const MOST_BYTES: usize = 24613;
 
 pub const MOST_NUMBERS: usize = 4096;
 
-// What slices are filled with.
-pub const BYTE: u8 = 0xA5;
-
-pub const NUMBER: u64 = 0xA5A5_A5A5_A5A5_A5A5;
-
-// A number, or the most that it may be where it is more.
-pub fn within(number: usize, most: usize) -> usize
-    ensures { (result ≤ most) × (result ≤ number) }
-{
-    if number < most { number } else { most }
+// An element of a slice that is lent.
+pub trait Element: Copy + PartialEq + Into<u64> {
+    // What the slice is filled with.
+    const FILLING: Self;
+    // The fewest hexadecimal digits that an element is printed with.
+    const DIGITS: usize;
 }
 
-// How many bytes represent a number.
-const NUMBER_BYTES: usize = 8;
+impl Element for u8 {
+    const FILLING: u8 = 0xA5;
 
-// The number that begins at a place of the bytes, the low byte first.
-fn number_at(bytes: &[u8], place: usize) -> u64
-    requires { place + 8 ≤ length bytes.now }
-{
-    let mut number: u64 = 0;
-    let mut i = NUMBER_BYTES;
-    while 0 < i {
-        i -= 1;
-        number = number % 0x0100_0000_0000_0000 * 256 + bytes[place + i] as u64;
-    }
-    number
+    const DIGITS: usize = 2;
 }
 
-// Puts the numbers that stand whole in the bytes into the slice, as many as it has room for.
+impl Element for u64 {
+    const FILLING: u64 = 0xA5A5_A5A5_A5A5_A5A5;
+
+    const DIGITS: usize = 1;
+}
+
+// Puts the numbers that stand whole in the bytes, the low byte first, into the slice, as many as it has room for.
 pub fn hold(bytes: &[u8], numbers: &mut [u64]) {
-    let mut i = 0;
-    while i < within(bytes.len() / NUMBER_BYTES, numbers.len()) {
-        numbers[i] = number_at(bytes, NUMBER_BYTES * i);
-        i += 1;
+    for (number, eight) in numbers.iter_mut().zip(bytes.as_chunks::<8>().0) {
+        *number = u64::from_le_bytes(*eight);
     }
 }

@@ -6,4 +6,3 @@ pub mod lend;
 pub mod names;
 pub mod row;
 pub mod show;
-pub mod words;

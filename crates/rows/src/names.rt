@@ -1,66 +1,110 @@
-// The calls by their names, and the fields that each takes. A name is a number that has a byte for each letter; of more than eight letters it has the last eight.
+// The calls by their names, and the fields that each takes.
 
-pub const LINE: usize = 0x6C69_6E65;
+#[derive(Clone, Copy, Debug, PartialEq, Eq)]
+pub enum Call {
+    Line,
+    Make,
+    Mark,
+    Room,
+    Certify,
+    Accept,
+    Decline,
+    TurnAway,
+    Rule,
+    Rules,
+    Evaluate,
+    Size,
+    Label,
+    Unfold,
+    Walk,
+    Wrap,
+    Practice,
+    Blackboard,
+    Add,
+}
 
-pub const MAKE: usize = 0x6D61_6B65;
+impl Call {
+    // The first field of a row that is no byte string. The call is field 1.
+    pub(crate) fn first_number(self) -> usize {
+        match self {
+            Call::Line
+            | Call::Room
+            | Call::Make
+            | Call::Certify
+            | Call::Accept
+            | Call::Decline
+            | Call::TurnAway
+            | Call::Practice
+            | Call::Blackboard => 3,
+            Call::Mark | Call::Rule | Call::Rules | Call::Size | Call::Label | Call::Unfold => 4,
+            Call::Evaluate | Call::Walk | Call::Wrap => 5,
+            Call::Add => 7,
+        }
+    }
 
-pub const MARK: usize = 0x6D61_726B;
-
-pub const ROOM: usize = 0x726F_6F6D;
-
-pub const CERTIFY: usize = 0x63_6572_7469_6679;
-
-pub const ACCEPT: usize = 0x6163_6365_7074;
-
-pub const DECLINE: usize = 0x64_6563_6C69_6E65;
-
-pub const TURN_AWAY: usize = 0x7572_6E5F_6177_6179;
-
-pub const RULE: usize = 0x7275_6C65;
-
-pub const RULES: usize = 0x72_756C_6573;
-
-pub const EVALUATE: usize = 0x6576_616C_7561_7465;
-
-pub const SIZE: usize = 0x7369_7A65;
-
-pub const LABEL: usize = 0x6C_6162_656C;
-
-pub const UNFOLD: usize = 0x756E_666F_6C64;
-
-pub const WALK: usize = 0x7761_6C6B;
-
-pub const WRAP: usize = 0x7772_6170;
-
-pub const PRACTICE: usize = 0x7072_6163_7469_6365;
-
-pub const BLACKBOARD: usize = 0x6163_6B62_6F61_7264;
-
-pub const ADD: usize = 0x61_6464;
-
-// What is no call.
-pub const NONE: usize = 0;
-
-// The first field of a row that is no byte string. The call is field 1.
-pub fn first_number(call: usize) -> usize {
-    match call {
-        LINE | ROOM | MAKE | CERTIFY | ACCEPT | DECLINE | TURN_AWAY | PRACTICE | BLACKBOARD => 3,
-        MARK | RULE | RULES | SIZE | LABEL | UNFOLD => 4,
-        EVALUATE | WALK | WRAP => 5,
-        ADD => 7,
-        _ => 2,
+    // How many fields a row has.
+    pub(crate) fn fields(self) -> usize {
+        match self {
+            Call::Line | Call::Room => 3,
+            Call::Make
+            | Call::Rules
+            | Call::Accept
+            | Call::Decline
+            | Call::TurnAway
+            | Call::Blackboard => 4,
+            Call::Rule | Call::Size => 5,
+            Call::Evaluate
+            | Call::Label
+            | Call::Unfold
+            | Call::Walk
+            | Call::Wrap
+            | Call::Practice => 6,
+            Call::Mark => 7,
+            Call::Certify | Call::Add => 8,
+        }
     }
 }
 
-// How many fields a row has.
-pub fn fields_of(call: usize) -> usize {
-    match call {
-        LINE | ROOM => 3,
-        MAKE | RULES | ACCEPT | DECLINE | TURN_AWAY | BLACKBOARD => 4,
-        RULE | SIZE => 5,
-        EVALUATE | LABEL | UNFOLD | WALK | WRAP | PRACTICE => 6,
-        MARK => 7,
-        CERTIFY | ADD => 8,
-        _ => 0,
+// A name as it is read: its last eight letters, behind bytes 0 where it has fewer.
+#[derive(Clone, Copy, Debug, PartialEq, Eq)]
+pub(crate) struct Name {
+    letters: [u8; 8],
+}
+
+impl Name {
+    // A name with no letters.
+    pub(crate) fn empty() -> Name {
+        Name { letters: [0; 8] }
+    }
+
+    pub(crate) fn add(&mut self, letter: u8) {
+        self.letters.rotate_left(1);
+        self.letters[7] = letter;
+    }
+
+    // The call of the name. Of a name of more than eight letters the last eight tell it.
+    pub(crate) fn call(&self) -> Option<Call> {
+        Some(match &self.letters {
+            b"\0\0\0\0line" => Call::Line,
+            b"\0\0\0\0make" => Call::Make,
+            b"\0\0\0\0mark" => Call::Mark,
+            b"\0\0\0\0room" => Call::Room,
+            b"\0certify" => Call::Certify,
+            b"\0\0accept" => Call::Accept,
+            b"\0decline" => Call::Decline,
+            b"urn_away" => Call::TurnAway,
+            b"\0\0\0\0rule" => Call::Rule,
+            b"\0\0\0rules" => Call::Rules,
+            b"evaluate" => Call::Evaluate,
+            b"\0\0\0\0size" => Call::Size,
+            b"\0\0\0label" => Call::Label,
+            b"\0\0unfold" => Call::Unfold,
+            b"\0\0\0\0walk" => Call::Walk,
+            b"\0\0\0\0wrap" => Call::Wrap,
+            b"practice" => Call::Practice,
+            b"ackboard" => Call::Blackboard,
+            b"\0\0\0\0\0add" => Call::Add,
+            _ => return None,
+        })
     }
 }

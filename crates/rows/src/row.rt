@@ -1,185 +1,208 @@
 // A row as it is read behind the colon: a space, a call, and the fields of the call behind a space each.
+ghost use Rattle.std.specs.Prelude.{◌≡◌, ◌+◌, ◌-◌, ◌*◌, ◌^◌, min};
+
 use crate::input::{LONGEST, next_byte};
-use crate::names::{NONE, first_number};
+use crate::names::{Call, Name};
 use std::io;
 use std::io::Read;
 
-// The place behind what does not fit.
-pub const LOST: usize = usize::MAX;
+// The most fields that a row may have: what stands before the space, the call, and those of the call.
+pub const MOST_FIELDS: usize = 8;
 
-// What was read of a row.
-#[derive(Clone, Copy)]
-pub struct Row {
-    // The call, by its name. Whatever is no digit is taken for a letter of it, so that a wrong sign makes it no call.
-    pub call: usize,
-    // How many fields were read: what stands before the space, the call, and those of the call.
-    pub fields: usize,
-    // Where the bytes of each field end, and the decimal number that it is.
-    pub ends: [usize; 9],
-    pub numbers: [usize; 9],
-    // Where the bytes of the last piece start and end, and whether the next byte has a digit already.
+// How many fields are counted before the count begins at 1 again.
+const COUNTED: usize = 1000;
+
+// A field of a row: where its bytes start and end, and the decimal number that it is.
+#[derive(Clone, Copy, Debug, PartialEq, Eq)]
+pub struct Field {
     pub start: usize,
     pub end: usize,
-    pub half: bool,
-    // The decimal number of the last digits, and how often the last piece is to stand there.
     pub number: usize,
-    pub times: usize,
 }
 
-fn new_row() -> Row {
-    Row {
-        call: NONE,
-        fields: 0,
-        ends: [0; 9],
-        numbers: [0; 9],
-        start: 0,
-        end: 0,
-        half: false,
-        number: 0,
-        times: 1,
+// A row that was read: its call, and the fields that the call takes.
+#[derive(Clone, Copy, Debug, PartialEq, Eq)]
+pub struct Row {
+    pub call: Call,
+    pub fields: [Field; MOST_FIELDS],
+}
+
+// A piece of a row, of which a field has more than one where pluses stand between them.
+#[derive(Clone, Copy, Debug, PartialEq, Eq)]
+struct Piece {
+    // Where its bytes start and end, nowhere if there is no room for them.
+    start: Option<usize>,
+    end: Option<usize>,
+    // Whether the next byte has a digit already.
+    half: bool,
+    // The decimal number of its digits, and how often it is to stand there.
+    number: usize,
+    times: usize,
+}
+
+impl Piece {
+    fn at(start: Option<usize>) -> Piece {
+        Piece {
+            start,
+            end: start,
+            half: false,
+            number: 0,
+            times: 1,
+        }
+    }
+
+    // Adds a digit to the number and to the bytes, where it moves the digit before up.
+    fn add_digit(&mut self, bytes: &mut [u8], digit: u8) {
+        self.number = with_digit(self.number, digit);
+        self.end = self.end.filter(|end| *end < bytes.len());
+        if let Some(end) = self.end {
+            bytes[end] = bytes[end] << 4 | digit;
+            if self.half {
+                self.end = Some(end + 1);
+            }
+        }
+        self.half = !self.half;
+    }
+
+    // Writes the bytes of the piece as often as they are to stand there.
+    fn repeat(&mut self, bytes: &mut [u8]) {
+        if let (Some(start), Some(end)) = (self.start, self.end) {
+            self.end = repeat(bytes, start, end, self.times);
+        }
+    }
+
+    // What stands before a star says how often the piece is to stand there.
+    fn end_times(&mut self) {
+        let times = self.number;
+        *self = Piece::at(self.start);
+        self.times = times;
     }
 }
 
-// The value of a hexadecimal digit, 16 for any other byte.
-pub fn digit_of(byte: u8) -> u8 {
-    if byte < b'0' {
-        return 16;
+// Writes the bytes between two places so often that they stand there so many times, once at least, and answers where they end: nowhere, unless there is room
+// for a byte more.
+fn repeat(bytes: &mut [u8], start: usize, end: usize, times: usize) -> Option<usize> {
+    if end <= start {
+        return Some(end);
     }
-    if byte <= b'9' {
-        return byte - b'0';
+    let length = end - start;
+    let stop = start.saturating_add(length.saturating_mul(times.max(1)));
+    if bytes.len() <= stop {
+        return None;
     }
-    if byte < b'A' {
-        return 16;
+    for place in end..stop {
+        bytes[place] = bytes[place - length];
     }
-    if byte <= b'F' {
-        return byte - b'A' + 10;
+    Some(stop)
+}
+
+// The value of a hexadecimal digit, which is no small letter.
+fn digit_of(byte: u8) -> Option<u8> {
+    match byte {
+        b'0'..=b'9' => Some(byte - b'0'),
+        b'A'..=b'F' => Some(byte - b'A' + 10),
+        _ => None,
     }
-    16
 }
 
 // A number with a digit behind it, the largest number where that is too large.
-pub fn with_digit(number: usize, digit: u8) -> usize {
-    if usize::MAX / 10 < number {
-        return usize::MAX;
-    }
-    if usize::MAX - 10 * number < digit as usize {
-        return usize::MAX;
-    }
-    10 * number + digit as usize
+pub fn with_digit(number: usize, digit: u8) -> usize
+    ensures { result ≡ min (10 * number + digit) (2 ^ 64 - 1) }
+{
+    number.saturating_mul(10).saturating_add(digit as usize)
 }
 
-fn add_digit(mut row: Row, digit: u8) -> Row {
-    row.number = with_digit(row.number, digit);
-    if row.half {
-        row.end = after(row.end);
-    }
-    row.half = !row.half;
-    row
+// What was read of a row.
+#[derive(Clone, Copy, Debug, PartialEq, Eq)]
+struct Reading {
+    // The name of the call. Whatever is no digit is taken for a letter of it, so that a wrong sign makes it no call.
+    name: Name,
+    // How many fields were read: what stands before the space, the call, and those of the call.
+    count: usize,
+    fields: [Field; MOST_FIELDS],
+    // Where the field that is being read starts, and its last piece.
+    start: usize,
+    piece: Piece,
 }
 
-// The next place.
-fn after(place: usize) -> usize {
-    if place < LONGEST { place + 1 } else { LOST }
-}
-
-fn add_letter(mut row: Row, letter: u8) -> Row {
-    row.call = row.call % 0x0100_0000_0000_0000 * 256 + letter as usize;
-    row
-}
-
-// What stands before a star says how often the piece is to stand there.
-fn add_star(mut row: Row) -> Row {
-    row.times = row.number;
-    row.number = 0;
-    row.end = row.start;
-    row.half = false;
-    row
-}
-
-// A byte of a byte string that lacks a digit makes the row unreadable.
-fn end_piece(mut row: Row) -> Row {
-    if row.half {
-        if row.fields < first_number(row.call) {
-            row.call = NONE;
+impl Reading {
+    fn new() -> Reading {
+        Reading {
+            name: Name::empty(),
+            count: 0,
+            fields: [Field {
+                start: 0,
+                end: 0,
+                number: 0,
+            }; MOST_FIELDS],
+            start: 0,
+            piece: Piece::at(Some(0)),
         }
     }
-    row.start = row.end;
-    row.half = false;
-    row.number = 0;
-    row.times = 1;
-    row
-}
 
-fn end_field(before: Row) -> Row {
-    let mut row = end_piece(before);
-    let field = row.fields % 9;
-    row.ends[field] = row.end;
-    row.numbers[field] = before.number;
-    row.fields = row.fields % 1000 + 1;
-    row
-}
-
-fn add_byte(row: Row, byte: u8, digit: u8) -> Row {
-    if digit < 16 {
-        return add_digit(row, digit);
-    }
-    match byte {
-        0 | b'\n' | b' ' => end_field(row),
-        b'+' => end_piece(row),
-        b'*' => add_star(row),
-        b'-' => row,
-        _ => add_letter(row, byte),
-    }
-}
-
-// Writes the bytes between two places so often that they stand there so many times, and answers where they end, LOST where there is no room for them.
-fn repeat(bytes: &mut [u8], start: usize, end: usize, times: usize) -> usize {
-    if end <= start {
-        return end;
-    }
-    let step = end - start;
-    let mut i = end;
-    while i < bytes.len() {
-        if times <= (i - start) / step {
-            return i;
+    // A byte of a byte string that lacks a digit makes the row unreadable.
+    fn end_piece(&mut self) {
+        if self.piece.half && self.count < self.name.call().map_or(2, |call| call.first_number()) {
+            self.name = Name::empty();
         }
-        bytes[i] = bytes[i - step];
-        i += 1;
+        self.piece = Piece::at(self.piece.end);
     }
-    LOST
+
+    // Where there was no room for the bytes, the row is unreadable whatever its fields are.
+    fn end_field(&mut self) {
+        let number = self.piece.number;
+        self.end_piece();
+        if let Some(end) = self.piece.end {
+            self.fields[self.count % MOST_FIELDS] = Field {
+                start: self.start,
+                end,
+                number,
+            };
+            self.start = end;
+        }
+        self.count = self.count % COUNTED + 1;
+    }
+
+    fn add(&mut self, bytes: &mut [u8], byte: u8) {
+        if let Some(digit) = digit_of(byte) {
+            return self.piece.add_digit(bytes, digit);
+        }
+        self.piece.repeat(bytes);
+        match byte {
+            0 | b'\n' | b' ' => self.end_field(),
+            b'+' => self.end_piece(),
+            b'*' => self.piece.end_times(),
+            b'-' => {}
+            letter => self.name.add(letter),
+        }
+    }
+
+    // The row that was read, none where it is unreadable. What is no call has no fields: a row with none is taken for turning candidate 0 away, with an empty tally.
+    fn row(self) -> Option<Row> {
+        let (call, count) = match self.name.call() {
+            Some(call) => (call, call.fields()),
+            None => (Call::TurnAway, 0),
+        };
+        if self.count != count || self.piece.end.is_none() {
+            return None;
+        }
+        Some(Row {
+            call,
+            fields: self.fields,
+        })
+    }
 }
 
-// Writes a digit at a place, where it moves the digit before up, and answers the place, LOST where there is no room for it.
-fn write_digit(bytes: &mut [u8], place: usize, digit: u8) -> usize {
-    if bytes.len() <= place {
-        return LOST;
-    }
-    bytes[place] = bytes[place] % 16 * 16 + digit % 16;
-    place
-}
-
-// Writes what the next byte of a row asks for: a digit, or the repetitions of the piece that it ends.
-fn write(bytes: &mut [u8], row: Row, digit: u8) -> usize {
-    if digit < 16 {
-        return write_digit(bytes, row.end, digit);
-    }
-    repeat(bytes, row.start, row.end, row.times)
-}
-
-// Reads a row up to the end of its line. Its byte strings go to the slice.
-pub fn read_row(input: &mut impl Read, bytes: &mut [u8]) -> io::Result<Row> {
-    let mut row = new_row();
-    let mut count = 0;
-    while count < LONGEST {
+// Reads a row up to the end of its line, none where it is unreadable. Its byte strings go to the slice. A row that is too long to be read in one go is taken for
+// one with no call and no fields.
+pub fn read_row(input: &mut impl Read, bytes: &mut [u8]) -> io::Result<Option<Row>> {
+    let mut reading = Reading::new();
+    for _ in 0..LONGEST {
         let byte = next_byte(input)?;
-        let digit = digit_of(byte);
-        let end = write(bytes, row, digit);
-        row.end = end;
-        row = add_byte(row, byte, digit);
+        reading.add(bytes, byte);
         if byte < b' ' {
-            return Ok(row);
+            return Ok(reading.row());
         }
-        count += 1;
     }
-    Ok(new_row())
+    Ok(Reading::new().row())
 }

@@ -6,25 +6,18 @@ ghost use Rattle.terms.specs.Grammar.{terminal_rank};
 ghost use Rattle.terms.specs.FormBytes.{rule_length, chain_fits, kind_fits, rule_fits};
 
 use checks::alphabet;
-use form_bytes::rule::{fourth_of, hole_of, kind_of, terminal_of};
+use form_bytes::rule::{NO_TERMINAL, fourth_of, hole_of, kind_of, terminal_of};
 use slot_checks::{slot_calls, slot_unused, slots_fit};
 use terms::{Rule, Terminal};
-
-// What represents the terminal of a rule that has none.
-const NO_TERMINAL: u8 = 0xFF;
 
 // Kind 0, f(A1..An): f is a terminal, and no child is open.
 fn whole_fits(alphabet: &[u8], table: &[u8], rule: Rule, terminal: Terminal, hole: u8) -> bool
     requires { rule_length * rule.0 + rule_length ≤ length table.now }
     ensures { let a = alphabet.now in result ≡ kind_fits table.now rule.0 0 (length a) terminal.0 (terminal_rank a terminal.0) hole }
 {
-    if alphabet.len() <= terminal.0 as usize {
-        return false;
-    }
-    if hole != 0 {
-        return false;
-    }
-    slots_fit(table, rule, alphabet::rank_of(alphabet, terminal), hole)
+    (terminal.0 as usize) < alphabet.len()
+        && hole == 0
+        && slots_fit(table, rule, alphabet::rank_of(alphabet, terminal), hole)
 }
 
 // Kind 1, f(A1..y..An): f is a terminal, and the open child is one of its children.
@@ -32,17 +25,11 @@ fn pierced_fits(alphabet: &[u8], table: &[u8], rule: Rule, terminal: Terminal, h
     requires { rule_length * rule.0 + rule_length ≤ length table.now }
     ensures { let a = alphabet.now in result ≡ kind_fits table.now rule.0 1 (length a) terminal.0 (terminal_rank a terminal.0) hole }
 {
-    if alphabet.len() <= terminal.0 as usize {
-        return false;
-    }
-    if hole < 1 {
-        return false;
-    }
     let rank = alphabet::rank_of(alphabet, terminal);
-    if rank < hole {
-        return false;
-    }
-    slots_fit(table, rule, rank, hole)
+    (terminal.0 as usize) < alphabet.len()
+        && 1 <= hole
+        && hole <= rank
+        && slots_fit(table, rule, rank, hole)
 }
 
 // Kinds 2 and 3, B(C) and B(C(y)): no terminal, no hole, B of rank 1, C of the rank `rank`, and the other slots unused.
@@ -50,22 +37,12 @@ fn chain_fits(table: &[u8], rule: Rule, terminal: Terminal, hole: u8, rank: u8) 
     requires { rule_length * rule.0 + rule_length ≤ length table.now }
     ensures { result ≡ chain_fits table.now rule.0 terminal.0 hole rank }
 {
-    if terminal.0 != NO_TERMINAL {
-        return false;
-    }
-    if hole != 0 {
-        return false;
-    }
-    if !slot_calls(table, rule, 1, 0) {
-        return false;
-    }
-    if !slot_calls(table, rule, rank, 1) {
-        return false;
-    }
-    if !slot_unused(table, rule, 2) {
-        return false;
-    }
-    slot_unused(table, rule, 3)
+    terminal == NO_TERMINAL
+        && hole == 0
+        && slot_calls(table, rule, 1, 0)
+        && slot_calls(table, rule, rank, 1)
+        && slot_unused(table, rule, 2)
+        && slot_unused(table, rule, 3)
 }
 
 // `rule` fits its kind, and its fourth byte is 00.

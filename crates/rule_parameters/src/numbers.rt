@@ -16,25 +16,16 @@ fn stands(nodes: &[u8], parameter: u8) -> bool
     requires { parameter < highest_rank }
     ensures { result ≡ stands nodes.now parameter }
 {
-    let mut left = nodes.len();
-    while 0 < left {
-        left -= 1;
-        if nodes[left] == FIRST_PARAMETER + parameter {
-            return true;
-        }
-    }
-    false
+    nodes.contains(&(FIRST_PARAMETER + parameter))
 }
 
 // Notes which parameters of a rule stand among its nodes.
 pub fn note_present(nodes: &[u8], rank: u8, first: usize, present: &mut [bool; FLAGS])
-    requires { (rank ≤ highest_rank) × (length present.old ≡ rule_flags) × (first + highest_rank ≤ rule_flags) }
+    requires { (rank ≤ highest_rank) × (first + highest_rank ≤ rule_flags) }
     ensures { PresentNoted nodes.now rank first present.old present.new }
 {
-    let mut left = rank;
-    while 0 < left {
-        left -= 1;
-        present[first + left as usize] = stands(nodes, left);
+    for parameter in 0..rank {
+        present[first + parameter as usize] = stands(nodes, parameter);
     }
 }
 
@@ -43,15 +34,8 @@ pub fn present_before(present: &[bool; FLAGS], first: usize, parameter: u8) -> u
     requires { (parameter ≤ highest_rank) × (first + highest_rank ≤ rule_flags) }
     ensures { result ≡ trues (take parameter (drop first present.now)) }
 {
-    let mut number = 0;
-    let mut before = 0;
-    while before < parameter {
-        if present[first + before as usize] {
-            number += 1;
-        }
-        before += 1;
-    }
-    number
+    let before = &present[first..first + parameter as usize];
+    before.iter().filter(|present| **present).count() as u8
 }
 
 // The byte of a node, with the new number where it is a parameter.
@@ -60,10 +44,8 @@ fn numbered(present: &[bool; FLAGS], first: usize, byte: u8) -> u8
     ensures { result ≡ numbered (drop first present.now) byte (name byte) }
 {
     match name_of(byte) {
-        Name::Terminal(_) => byte,
-        Name::Nonterminal(_) => byte,
         Name::Parameter(j) => FIRST_PARAMETER + present_before(present, first, j),
-        Name::Nothing => byte,
+        Name::Terminal(_) | Name::Nonterminal(_) | Name::Nothing => byte,
     }
 }
 
@@ -72,9 +54,7 @@ pub fn renumber(nodes: &mut [u8], present: &[bool; FLAGS], first: usize)
     requires { first + highest_rank ≤ rule_flags }
     ensures { nodes.new ≡ map (λ m. numbered (drop first present.now) m (name m)) nodes.old }
 {
-    let mut left = nodes.len();
-    while 0 < left {
-        left -= 1;
-        nodes[left] = numbered(present, first, nodes[left]);
+    for node in nodes.iter_mut() {
+        *node = numbered(present, first, *node);
     }
 }

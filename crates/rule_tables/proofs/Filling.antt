@@ -7,7 +7,7 @@ use native.Mathlib.Omega.{arith}
 use native.Mathlib.Decide.{dec_lt}
 use native.Mathlib.Nat.{pow-le-pow_right}
 use lib.Dec.{ltb}
-use lib.ListN.{length, get_or, take, drop, length-drop}
+use lib.ListN.{length, get_or, take, drop, length-drop, replicate, length-replicate, get_or-replicate}
 use lib.Seq.{get_or-take, get_or-drop, length-take-le}
 use borrow.Author.Tests.{lt-ltb, le-ltb}
 use Rattle.terms.specs.Grammar.{rule_rank}
@@ -16,14 +16,14 @@ use Rattle.terms.proofs.Sheet.Automaton.{AutomatonPassed, automaton_passed}
 use Rattle.blackboard_terms.specs.Blackboard.{is_choice, table_byte, table_length}
 use Rattle.blackboard_terms.proofs.Method.{byte_clear}
 use Rattle.side_relations.specs.Side.{RuleGiven, SideReady, SideRelated}
-use Rattle.rule_tables.specs.Bytes.{AllClear, LanesWritten}
+use Rattle.rule_tables.specs.Bytes.{LanesWritten}
 use Rattle.rule_tables.specs.Choice.{lanes_of, choices_of, states_behind}
 use Rattle.rule_tables.specs.Table.{TableReady}
 use Rattle.rule_tables.proofs.Choices.{lane_choice, choice-lane}
 use Rattle.rule_tables.proofs.Patch.{patched_long, patched_before, patched_there, patched_behind}
 
-module _ {alphabet automaton links spread tables ranks : List ℕ} {present : List Bool} {nodes : List ℕ} {number : ℕ}
-    (g : TableReady alphabet automaton links spread tables ranks present nodes number) where
+module _ {alphabet automaton tables ranks : List ℕ} {present : List Bool} {nodes : List ℕ} {number : ℕ}
+    (g : TableReady alphabet automaton tables ranks present nodes number) where
   abbrev rank : ℕ
   rank = rule_rank g.given.rules number
 
@@ -62,26 +62,35 @@ module _ {alphabet automaton links spread tables ranks : List ℕ} {present : Li
     pub clear : (c : ℕ) → c < table_length → choice ≤ c / 8 → get_or tables' (start + c) 0 ≡ 0
 
   -- the table is cleared
-  pub filling_none : (part part' : List ℕ) → part ≡ take (start + table_length - start) (drop start tables) → AllClear part part'
-      → Filling 0 (take start tables ++ (part' ++ drop (start + table_length - start) (drop start tables)))
-  filling_none part part' part-is z =
+  pub filling_none : (part : List ℕ) → part ≡ replicate table_length 0
+      → Filling 0 (take start tables ++ (part ++ drop (start + table_length - start) (drop start tables)))
+  filling_none part e =
       let n = start + table_length - start in
-      let size : length part ≡ n = ap length part-is ∙ length-take-le n (drop start tables) (omega (arith, length-drop start tables, g.room)) in
-      let size' : length part' ≡ n = omega (arith, z.long) in
+      let size : length part ≡ n = rw e (omega (arith, length-replicate {A = ℕ} table_length 0)) in
       let inside : start + n ≤ length tables = omega (arith, g.room) in
       record {
-        long = patched_long tables start n part' size' inside;
-        before = λ k h. patched_before tables start n part' size' inside k h;
-        behind = λ k h. patched_behind tables start n part' size' inside k (omega arith);
+        long = patched_long tables start n part size inside;
+        before = λ k h. patched_before tables start n part size inside k h;
+        behind = λ k h. patched_behind tables start n part size inside k (omega arith);
         done = λ c h l. absurd (omega arith);
-        clear = λ c h l. patched_there tables start n part' size' inside c (omega arith) ∙ z.written c (omega arith);
+        clear = λ c h l. patched_there tables start n part size inside c (omega arith) ∙ rw e (get_or-replicate table_length c 0 0 h);
       }
+
+  -- what is read of the rank that is noted
+  pub lanes-are : {n : ℕ} → n ≡ lanes_of (get_or ranks number 0) Q → n ≡ lanes_of rank Q
+  lanes-are e = e ∙ ap (λ (r : ℕ). lanes_of r Q) g.rank
+
+  pub choices-are : {n : ℕ} → n ≡ choices_of (get_or ranks number 0) → n ≡ choices_of rank
+  choices-are e = e ∙ ap choices_of g.rank
+
+  pub choice_few : {choice n : ℕ} → n ≡ choices_of (get_or ranks number 0) → choice < n → choice < 512
+  choice_few e h = omega (arith, choices-are e, choices-few)
 
   -- One choice.
 
   module _ {choice : ℕ} {tables' : List ℕ} (f : Filling choice tables') where
     -- the lower tables are still there
-    given' : RuleGiven alphabet automaton links spread tables' ranks present nodes number
+    given' : RuleGiven alphabet automaton tables' ranks present nodes number
     given' =
         let r = g.given in
         record {
@@ -89,8 +98,6 @@ module _ {alphabet automaton links spread tables ranks : List ℕ} {present : Li
           alone = r.alone;
           alphabet-passes = r.alphabet-passes;
           automaton_passes = r.automaton_passes;
-          linked = r.linked;
-          spreads = r.spreads;
           proper = r.proper;
           inside = r.inside;
           rule_nodes = r.rule_nodes;
@@ -137,7 +144,7 @@ module _ {alphabet automaton links spread tables ranks : List ℕ} {present : Li
       few : choice < 512
       few = omega (arith, choices-few)
 
-      pub side_ready : SideReady alphabet automaton links spread tables' ranks present nodes choice lanes
+      pub side_ready : SideReady alphabet automaton tables' ranks present nodes choice lanes
       unfolding given'
       side_ready = record {
         number = number;

@@ -1,4 +1,3 @@
-pub mod Writing
 pub mod Choices
 pub mod Patch
 pub mod Filling

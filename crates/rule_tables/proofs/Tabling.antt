@@ -1,8 +1,8 @@
 -- The rules one after another: the tables of the first rules are written, and the bytes behind them are kept.
-use mathlib.Core.Path.{◌≡◌, refl, sym, ◌∙◌, ap}
+use mathlib.Core.Path.{◌≡◌, sym, ◌∙◌, ap}
 use mathlib.Core.Bool.{Bool}
-use mathlib.Core.List.{List, ◌++◌}
-use Prim.Native.Nat.{ℕ, suc, ◌+◌, ◌*◌, ◌-◌, ◌/◌, ◌%◌, ◌≤◌, ◌<◌}
+use mathlib.Core.List.{List, [], ◌++◌}
+use Prim.Native.Nat.{ℕ, ◌+◌, ◌*◌, ◌-◌, ◌/◌, ◌%◌, ◌≤◌, ◌<◌}
 use native.Mathlib.Omega.{arith}
 use native.Mathlib.Decide.{dec_lt}
 use borrow.Author.Count.{below_more}
@@ -12,11 +12,7 @@ use Rattle.terms.specs.Test.{joined}
 use Rattle.terms.specs.Grammar.{Rule}
 use Rattle.terms.specs.Sheet.{rules_body, state_count, transitions_of}
 use Rattle.terms.specs.Check.{most_rules}
-use Rattle.relations.specs.Spread.{Spreads}
-use Rattle.transition_links.specs.Links.{Linked}
-use Rattle.grammars.specs.Cursor.{span_at, rule_in}
-use Rattle.grammars.specs.declared.cursor.Span.{Span}
-use Rattle.grammars.proofs.Body.{nodes-long, Standing, standing, inside-body, Passed, none_passed, rule_passed}
+use Rattle.grammars.proofs.Turns.{Left, none-read, Turn, read-all}
 use Rattle.cleaning.specs.Sifting.{Noted}
 use Rattle.blackboard_terms.specs.Blackboard.{table_byte, table_length, rule_table}
 use Rattle.blackboard_terms.proofs.Tables.{length-tables, tables-byte}
@@ -35,7 +31,7 @@ noted-below m l n = record {
   lone = λ r h. n.lone r (omega arith);
 }
 
-module _ {alphabet automaton body : List ℕ} {count : ℕ} {tables : List ℕ} (g : RulesReady alphabet automaton body count tables) where
+module _ {alphabet automaton body tables : List ℕ} (g : RulesReady alphabet automaton body tables) where
   abbrev rules : List Rule
   rules = (rules_body body).rules
 
@@ -43,78 +39,55 @@ module _ {alphabet automaton body : List ℕ} {count : ℕ} {tables : List ℕ} 
   abbrev byte : ℕ → ℕ → ℕ
   byte r c = table_byte alphabet rules (transitions_of alphabet automaton) (state_count automaton) r c
 
-  -- the first i rules have their tables, and the next one's bytes start at a place
-  pub record Tabling (at i : ℕ) (tables' : List ℕ) : Type 0 where
-    pub nodes : ℕ
-    pub passed : Passed body at i nodes
-    pub rest : drop i rules ≡ (rules_body (drop at body)).rules
+  -- the first i rules have their tables, and the others are left
+  pub record Tabling (left : List ℕ) (i : ℕ) (tables' : List ℕ) : Type 0 where
+    pub read : Left body i left
     pub long : length tables' ≡ length tables
     pub bytes : (r : ℕ) → r < i → (c : ℕ) → c < table_length → get_or tables' (table_length * r + c) 0 ≡ byte r c
     pub behind : (k : ℕ) → table_length * i ≤ k → get_or tables' k 0 ≡ get_or tables k 0
 
-  pub tabling_none : {tables' : List ℕ} → tables' ≡ tables → Tabling 0 0 tables'
+  pub tabling_none : {tables' : List ℕ} → tables' ≡ tables → Tabling body 0 tables'
   tabling_none e = record {
-    nodes = 0;
-    passed = none_passed body;
-    rest = refl;
+    read = none-read body;
     long = ap length e;
     bytes = λ r h. absurd (omega arith);
     behind = λ k h. ap (λ (xs : List ℕ). get_or xs k 0) e;
   }
 
-  -- one rule, which stands in a span
-  module _ {at i : ℕ} {tables' : List ℕ} (s : Tabling at i tables') (more : i < count) where
-    inside : i < length rules
-    inside = omega (arith, g.grammar.count)
+  module _ {left : List ℕ} {i : ℕ} {tables' : List ℕ} (s : Tabling left i tables') where
+    -- there are few rules
+    pub few-left : i + length (rules_body left).rules ≤ most_rules
+    few-left = omega (arith, s.read.count, g.grammar.proper.few)
 
-    pub in_body : at < length body
-    in_body = inside-body body at i s.rest inside
+    -- one rule, which is the first of those that are left
+    module _ {rule : Rule} {later : List ℕ} (t : Turn body i left rule later) where
+      pub number-few : i < most_rules
+      number-few = omega (arith, t.inside, g.grammar.proper.few)
 
-    pub in_span : {span : Span} → span ≡ span_at body at → Standing body at i span
-    in_span e = standing body at i s.rest inside e
-
-    pub number-few : i < most_rules
-    number-few = omega (arith, inside, g.grammar.proper.few)
-
-    module _ {span : Span} (is : span ≡ span_at body at) where
-      there : Standing body at i span
-      there = in_span is
-
-      later : Passed body span.end (i + 1) (s.nodes + (span.end - span.start))
-      later = rule_passed body at i s.nodes s.passed is there.whole
-
-      long-nodes : length (rule_in body span).nodes ≡ span.end - span.start
-      long-nodes = rw is (nodes-long body at (rw is at there.whole))
-
-      module _ {ranks links spread : List ℕ} {present alone : List Bool} (n : Noted alphabet rules (length rules) ranks present alone) (l : Linked automaton links) (p : Spreads spread) where
-        pub table_ready : TableReady alphabet automaton links spread tables' ranks present (rule_in body span).nodes i
+      module _ {ranks : List ℕ} {present alone : List Bool} (n : Noted alphabet rules (length rules) ranks present alone) where
+        pub table_ready : TableReady alphabet automaton tables' ranks present rule.nodes i
         table_ready = record {
           given = record {
             rules = rules;
             alone = alone;
             alphabet-passes = g.alphabet-passes;
             automaton_passes = g.automaton_passes;
-            linked = l;
-            spreads = p;
             proper = g.grammar.proper;
-            inside = inside;
-            rule_nodes = ap (λ (r : Rule). r.nodes) (sym there.rule);
-            few = omega (arith, long-nodes, later.nodes, g.grammar.few);
-            noted = noted-below i (omega (arith, inside)) n;
-            below = record { long = omega (arith, s.long, g.room); bytes = λ r c h. s.bytes r h c };
+            inside = t.inside;
+            rule_nodes = ap (λ (r : Rule). r.nodes) (sym t.here);
+            few = omega (arith, t.parted, s.read.nodes, g.grammar.few);
+            noted = noted-below i (omega (arith, t.inside)) n;
+            below = record { long = omega (arith, s.long, t.inside, g.room); bytes = λ r c h. s.bytes r h c };
           };
-          rank = n.rank i inside;
-          room = omega (arith, s.long, g.room);
+          rank = n.rank i t.inside;
+          room = omega (arith, s.long, t.inside, g.room);
         }
 
-        pub tabling_more : (tables'' : List ℕ) → TableWritten alphabet automaton links spread tables' ranks present (rule_in body span).nodes i tables'' → Tabling span.end (i + 1) tables''
+        pub tabling_more : (tables'' : List ℕ) → TableWritten alphabet automaton tables' ranks present rule.nodes i tables'' → Tabling later (i + 1) tables''
         unfolding table_ready
         tabling_more tables'' w =
-            let z : i + 1 ≡ suc i = omega arith in
             record {
-              nodes = s.nodes + (span.end - span.start);
-              passed = later;
-              rest = rw z there.next;
+              read = t.next;
               long = w.long ∙ s.long;
               bytes = below_more (λ r. (c : ℕ) → c < table_length → get_or tables'' (table_length * r + c) 0 ≡ byte r c) i
                   (λ r h c m. w.before (table_length * r + c) (omega arith) ∙ s.bytes r h c m) (w.bytes table_ready);
@@ -128,9 +101,9 @@ module _ {alphabet automaton body : List ℕ} {count : ℕ} {tables : List ℕ} 
   size : length written ≡ table_length * length rules
   size = length-tables alphabet rules (transitions_of alphabet automaton) (state_count automaton) (length rules)
 
-  module _ {at i : ℕ} {tables' : List ℕ} (s : Tabling at i tables') (most : count ≤ i) where
+  module _ {left : List ℕ} {i : ℕ} {tables' : List ℕ} (s : Tabling left i tables') (none : (rules_body left).rules ≡ []) where
     all : i ≡ length rules
-    all = omega (arith, g.grammar.count, s.passed.rules)
+    all = sym (read-all s.read none)
 
     byte_at : (k : ℕ) → Dec (k < length written) → get_or tables' k 0 ≡ get_or (written ++ drop (length written) tables) k 0
     byte_at k (yes l) =
@@ -149,5 +122,5 @@ module _ {alphabet automaton body : List ℕ} {count : ℕ} {tables : List ℕ} 
     pub tabling_all : TablesWritten alphabet automaton body tables tables'
     tabling_all =
         ext_get_or 0 tables' (written ++ drop (length written) tables)
-        (omega (arith, s.long, length-append written (drop (length written) tables), length-drop (length written) tables, size, g.room, g.grammar.count))
+        (omega (arith, s.long, length-append written (drop (length written) tables), length-drop (length written) tables, size, g.room))
         (λ k h. byte_at k (dec_lt k (length written)))

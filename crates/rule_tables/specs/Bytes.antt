@@ -8,10 +8,6 @@ pub record BytesWritten (f : ℕ → ℕ) (n : ℕ) (entry exit : List ℕ) : Ty
   pub written : (k : ℕ) → k < n → get_or exit k 0 ≡ f k
   pub kept : (k : ℕ) → n ≤ k → get_or exit k 0 ≡ get_or entry k 0
 
--- every byte is 0 (02 R-7)
-abbrev pub AllClear : List ℕ → List ℕ → Type 0
-AllClear entry exit = BytesWritten (λ k. 0) (length entry) entry exit
-
 -- the first bytes are the lanes of a relation (02 R-7)
 abbrev pub LanesWritten : ℕ → ℕ → List ℕ → List ℕ → Type 0
 LanesWritten relation lanes entry exit = BytesWritten (lane relation) lanes entry exit

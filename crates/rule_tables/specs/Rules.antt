@@ -8,11 +8,11 @@ use Rattle.cleaning.specs.Clean.{GrammarBody}
 use Rattle.blackboard_terms.specs.Blackboard.{table_length, rule_table}
 
 -- the rules of a body are a grammar over an alphabet that passes, as the automaton does, and there is room for their tables (02 R-7)
-pub record RulesReady (alphabet automaton body : List ℕ) (rules : ℕ) (tables : List ℕ) : Type 0 where
+pub record RulesReady (alphabet automaton body tables : List ℕ) : Type 0 where
   pub alphabet-passes : alphabet_refusal alphabet ≡ 0
   pub automaton_passes : automaton_refusal alphabet automaton ≡ 0
-  pub grammar : GrammarBody alphabet body rules
-  pub room : table_length * rules ≤ length tables
+  pub grammar : GrammarBody alphabet body
+  pub room : table_length * length (rules_body body).rules ≤ length tables
 
 -- the tables are written, and later bytes are kept (02 R-7)
 abbrev pub TablesWritten : List ℕ → List ℕ → List ℕ → List ℕ → List ℕ → Type 0

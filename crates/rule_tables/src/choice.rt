@@ -31,11 +31,5 @@ pub fn are_states(choice: usize, states: u8) -> bool
     ensures { result ≡ states_behind states choice }
 {
     let states = states as usize;
-    if states <= choice % 8 {
-        return false;
-    }
-    if states <= choice / 8 % 8 {
-        return false;
-    }
-    choice / 64 % 8 < states
+    choice % 8 < states && choice / 8 % 8 < states && choice / 64 % 8 < states
 }

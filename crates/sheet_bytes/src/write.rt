@@ -1,32 +1,33 @@
 // Writing a sheet: the table of contents, then the three bodies.
 ghost use Rattle.std.specs.Prelude.{◌≡◌, ◌+◌, ◌<◌, ◌≤◌, length};
+ghost use Rattle.terms.specs.Bytes.{word_bytes};
 ghost use Rattle.terms.specs.Sheet.{contents_of, sheet_of};
 ghost use Rattle.sheet_bytes.specs.Put.{Put};
 
-use checks::bytes::copy_at;
 use checks::limits::CONTENTS;
+use copying::copy;
+
+// A number of the table of contents, the low byte first.
+fn word_bytes(number: usize) -> [u8; 2]
+    requires { number < 65536 }
+    ensures { result ≡ word_bytes number }
+{
+    (number as u16).to_le_bytes()
+}
 
 // The table of contents of three bodies, by their lengths.
 fn contents_of(alphabet: usize, rules: usize, automaton: usize) -> [u8; CONTENTS]
-    requires { 12 + alphabet + rules < 65536 }
+    requires { 12 + alphabet + rules + automaton < 65536 }
     ensures { result ≡ contents_of alphabet rules automaton }
 {
-    let r = CONTENTS + alphabet;
-    let a = r + rules;
-    [
-        (CONTENTS % 256) as u8,
-        (CONTENTS / 256 % 256) as u8,
-        (alphabet % 256) as u8,
-        (alphabet / 256 % 256) as u8,
-        (r % 256) as u8,
-        (r / 256 % 256) as u8,
-        (rules % 256) as u8,
-        (rules / 256 % 256) as u8,
-        (a % 256) as u8,
-        (a / 256 % 256) as u8,
-        (automaton % 256) as u8,
-        (automaton / 256 % 256) as u8,
-    ]
+    let mut contents = [0; CONTENTS];
+    contents[..2].copy_from_slice(&word_bytes(CONTENTS));
+    contents[2..4].copy_from_slice(&word_bytes(alphabet));
+    contents[4..6].copy_from_slice(&word_bytes(CONTENTS + alphabet));
+    contents[6..8].copy_from_slice(&word_bytes(rules));
+    contents[8..10].copy_from_slice(&word_bytes(CONTENTS + alphabet + rules));
+    contents[10..].copy_from_slice(&word_bytes(automaton));
+    contents
 }
 
 // A sheet of three bodies, whose length is the answer; later bytes are kept.
@@ -38,10 +39,9 @@ pub fn write_sheet(alphabet: &[u8], rules: &[u8], automaton: &[u8], sheet: &mut 
     let rules_at = CONTENTS + alphabet.len();
     let automaton_at = rules_at + rules.len();
     let end = automaton_at + automaton.len();
-    let contents = contents_of(alphabet.len(), rules.len(), automaton.len());
-    copy_at(&contents, sheet, 0);
-    copy_at(alphabet, sheet, CONTENTS);
-    copy_at(rules, sheet, rules_at);
-    copy_at(automaton, sheet, automaton_at);
+    sheet[..CONTENTS].copy_from_slice(&contents_of(alphabet.len(), rules.len(), automaton.len()));
+    copy(alphabet, &mut sheet[CONTENTS..rules_at]);
+    copy(rules, &mut sheet[rules_at..automaton_at]);
+    copy(automaton, &mut sheet[automaton_at..end]);
     end
 }

@@ -1,4 +1,2 @@
 pub mod Bodies
-pub mod Answer
-pub mod Read
-pub mod Parts
+pub mod Counts

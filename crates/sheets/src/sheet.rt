@@ -1,9 +1,9 @@
-// Reading a sheet of any length: what is refused of it, or where its bodies lie.
-ghost use Rattle.std.specs.Prelude.{◌≡◌, true, ◌≤◌, length};
-ghost use Rattle.terms.specs.Sheet.{body};
-ghost use Rattle.terms.specs.Check.{joins};
-ghost use Rattle.sheets.specs.Sheet.{answer_of_reading, sheet_reading};
-ghost use Rattle.sheets.specs.Private.Bodies.{bodies_reading};
+// Reading a sheet of any length: what is refused of it, or its bodies.
+ghost use Rattle.std.specs.Prelude.{◌≡◌, true, ◌≤◌, length, IfOk};
+ghost use Rattle.terms.specs.Answer.{refusal_of};
+ghost use Rattle.terms.specs.Sheet.{body, alphabet_of, rules_of, automaton_of};
+ghost use Rattle.terms.specs.Check.{joins, most_terminals, sheet_refusal};
+ghost use Rattle.terms.specs.Calls.{rules_asked, most_asked};
 
 use crate::limits::LONGEST_SHEET;
 use automata::check::check_automaton;
@@ -11,25 +11,38 @@ use checks::alphabet::check_alphabet;
 use checks::bytes::word;
 use checks::limits::CONTENTS;
 use grammars::rules::{Rules, read_rules};
+use terms::refusals::Refusal;
 
-// Where the bodies of a sheet lie, and how much they hold: the alphabet follows the contents with a byte for each
-// terminal, the rules follow the alphabet, and the automaton follows the rules to the end. A form of the sheet may take
-// so many rules as are asked.
+// A sheet that refusals 1 to 16 let through: its bytes, its bodies, how many rules it has, and how many rules a form of it may take.
 #[derive(Clone, Copy)]
-pub struct Layout {
-    pub terminals: usize,
-    pub rules: usize,
+pub struct Sheet<'a> {
+    pub bytes: &'a [u8],
+    pub alphabet: &'a [u8],
+    pub rules: &'a [u8],
+    pub automaton: &'a [u8],
+    pub count: usize,
     pub asked: usize,
-    pub automaton: usize,
+    pub ghost passes: { sheet_refusal bytes.now ≡ 0 },
+    pub ghost alphabet_is: { alphabet.now ≡ alphabet_of bytes.now },
+    pub ghost rules_are: { rules.now ≡ body bytes.now 1 },
+    pub ghost automaton_is: { automaton.now ≡ automaton_of bytes.now },
+    pub ghost counted: { count ≡ length (rules_of bytes.now) },
+    pub ghost asked_for: { asked ≡ rules_asked bytes.now },
+    pub ghost few_terminals: { length alphabet.now ≤ most_terminals },
+    pub ghost few_asked: { asked ≤ most_asked },
 }
 
+// The bodies of a sheet: the alphabet follows the contents with a byte for each terminal, the rules follow the alphabet, and the automaton follows the rules to the
+// end.
 #[derive(Clone, Copy)]
-pub enum Reading {
-    Refused(u8),
-    Sheet(Layout),
+pub struct Bodies<'a> {
+    pub alphabet: &'a [u8],
+    pub rules: &'a [u8],
+    pub automaton: &'a [u8],
 }
 
 // Whether the bodies follow the contents in order, without gaps, to the end.
+#[tactic(auto, unfolding(terms::specs::Check::joins))]
 fn contents_join(sheet: &[u8]) -> bool
     requires { 12 ≤ length sheet.now }
     ensures { result ≡ joins sheet.now }
@@ -37,69 +50,55 @@ fn contents_join(sheet: &[u8]) -> bool
     let alphabet = word(sheet, 0);
     let rules = word(sheet, 4);
     let automaton = word(sheet, 8);
-    if alphabet != CONTENTS {
-        return false;
-    }
-    if rules != alphabet + word(sheet, 2) {
-        return false;
-    }
-    if automaton != rules + word(sheet, 6) {
-        return false;
-    }
-    sheet.len() == automaton + word(sheet, 10)
+    alphabet == CONTENTS
+        && rules == alphabet + word(sheet, 2)
+        && automaton == rules + word(sheet, 6)
+        && sheet.len() == automaton + word(sheet, 10)
 }
 
-// What the three bodies of a sheet hold, or what is refused of them.
-fn read_bodies(alphabet: &[u8], rules: &[u8], automaton: &[u8]) -> Rules
-    ensures { result ≡ bodies_reading alphabet.now rules.now automaton.now }
-{
-    let refused = check_alphabet(alphabet);
-    if refused != 0 {
-        return Rules::Refused(refused);
-    }
-    match read_rules(alphabet, rules) {
-        Rules::Refused(n) => Rules::Refused(n),
-        Rules::Read(count, asked) => {
-            let refused = check_automaton(alphabet, automaton);
-            if refused != 0 {
-                return Rules::Refused(refused);
-            }
-            Rules::Read(count, asked)
-        }
-    }
-}
-
-// What the bodies of a sheet hold whose contents join, or what is refused of them.
-fn read_joined(sheet: &[u8]) -> Rules
+// The bodies of a sheet whose contents join.
+#[tactic(auto, using(crate::proofs::Bodies::bodies_lie))]
+pub fn bodies_of<'a>(sheet: &'a [u8]) -> Bodies<'a>
     requires { (12 ≤ length sheet.now) × (joins sheet.now ≡ true) }
-    ensures { result ≡ bodies_reading (body sheet.now 0) (body sheet.now 1) (body sheet.now 2) }
+    ensures alphabet { result.alphabet.now ≡ alphabet_of sheet.now }
+    ensures rules { result.rules.now ≡ body sheet.now 1 }
+    ensures automaton { result.automaton.now ≡ automaton_of sheet.now }
 {
     let rules = word(sheet, 4);
     let automaton = word(sheet, 8);
-    read_bodies(
-        &sheet[CONTENTS..rules],
-        &sheet[rules..automaton],
-        &sheet[automaton..],
-    )
+    Bodies {
+        alphabet: &sheet[CONTENTS..rules],
+        rules: &sheet[rules..automaton],
+        automaton: &sheet[automaton..],
+    }
 }
 
-// What is refused of a sheet, or where its bodies lie.
-pub fn read_sheet(sheet: &[u8]) -> Reading
-    ensures { answer_of_reading result ≡ sheet_reading sheet.now }
+// What is refused of a sheet, or its parts.
+#[tactic(auto, using(terms::proofs::InTurn::in_turn), unfolding(terms::specs::Check::sheet_refusal))]
+pub fn read_sheet<'a>(sheet: &'a [u8]) -> Result<Sheet<'a>, Refusal>
+    ensures refusal { refusal_of result ≡ sheet_refusal sheet.now }
+    ensures bytes { IfOk result (λ read. read.bytes.now ≡ sheet.now) }
 {
     if sheet.len() < CONTENTS || LONGEST_SHEET < sheet.len() {
-        return Reading::Refused(1);
+        return Err(Refusal::SheetLength);
     }
     if !contents_join(sheet) {
-        return Reading::Refused(2);
+        return Err(Refusal::Contents);
     }
-    match read_joined(sheet) {
-        Rules::Refused(n) => Reading::Refused(n),
-        Rules::Read(rules, asked) => Reading::Sheet(Layout {
-            terminals: word(sheet, 2),
-            rules,
-            asked,
-            automaton: word(sheet, 8),
-        }),
-    }
+    let Bodies {
+        alphabet,
+        rules,
+        automaton,
+    } = bodies_of(sheet);
+    check_alphabet(alphabet)?;
+    let Rules { count, asked } = read_rules(alphabet, rules)?;
+    check_automaton(alphabet, automaton)?;
+    Ok(Sheet {
+        bytes: sheet,
+        alphabet,
+        rules,
+        automaton,
+        count,
+        asked,
+    })
 }

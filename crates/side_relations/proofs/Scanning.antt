@@ -49,8 +49,8 @@ map-drop f zero xs = refl
 map-drop f (suc n) [] = refl
 map-drop f (suc n) (x ∷ xs) = map-drop f n xs
 
-module _ {alphabet automaton links spread tables ranks : List ℕ} {present : List Bool} {nodes : List ℕ} {choice lanes : ℕ}
-    (g : SideReady alphabet automaton links spread tables ranks present nodes choice lanes) where
+module _ {alphabet automaton tables ranks : List ℕ} {present : List Bool} {nodes : List ℕ} {choice lanes : ℕ}
+    (g : SideReady alphabet automaton tables ranks present nodes choice lanes) where
   abbrev rank_of : ℕ → ℕ
   rank_of = rank_in alphabet g.given.rules
 
@@ -150,19 +150,15 @@ module _ {alphabet automaton links spread tables ranks : List ℕ} {present : Li
     as_many : length children ≡ k
     as_many = length-take-le k xs (omega (arith, length-drop low stack, s.long, room))
 
-    ready : NodeReady alphabet automaton links spread tables children lanes (name f)
+    ready : NodeReady alphabet tables children lanes (name f)
     unfolding rank_in
     ready = go (name f) named refl
       where
-        go : (x : Name) → T (allowed alphabet g.number rank x) → name_rank alphabet g.given.rules x ≡ k → NodeReady alphabet automaton links spread tables children lanes x
-        go (terminal a) h q = (
-          record { alphabet_passes = g.given.alphabet-passes; automaton_passes = g.given.automaton_passes; linked = g.given.linked; terminal = ltb→lt a (length alphabet) h },
-          q ∙ sym as_many,
-          g.eight,
-        )
+        go : (x : Name) → T (allowed alphabet g.number rank x) → name_rank alphabet g.given.rules x ≡ k → NodeReady alphabet tables children lanes x
+        go (terminal a) h q = (ltb→lt a (length alphabet) h, q ∙ sym as_many, g.eight)
         go (nonterminal r) h q =
             let l = ltb→lt r g.number h in
-            (g.given.spreads, omega (arith, g.given.below.long), omega (arith, few-rules), g.eight)
+            (omega (arith, g.given.below.long), omega (arith, few-rules), g.eight)
         go (parameter j) h q = (omega (arith, ltb→lt j rank h, (g.given.proper.proper g.number g.given.inside).rank), g.eight)
         go nothing h q = absurd h
 
@@ -199,7 +195,7 @@ module _ {alphabet automaton links spread tables ranks : List ℕ} {present : Li
           ranked ∙ ap (name_rank alphabet (ruled_by ranks)) called
           ∙ node.rank-lower alphabet ranks g.given.rules g.number rank g.given.noted.rank (name f) named
 
-      pub ready_as : (ys : List ℕ) → ys ≡ take n xs → NodeReady alphabet automaton links spread tables ys lanes x
+      pub ready_as : (ys : List ℕ) → ys ≡ take n xs → NodeReady alphabet tables ys lanes x
       ready_as ys d = rw (d, rank-read, called) ready
 
       pub scan_more_as : (ys : List ℕ) → ys ≡ take n xs → (y : ℕ) → LanesAre lanes y (λ p. name_states δ (call_in tables present) (8 * choice + p) (lanes_at p ys) x)

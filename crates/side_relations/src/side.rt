@@ -11,26 +11,31 @@ use lane_calls::call::call_lanes;
 use lane_steps::step::step_lanes;
 use nodes::name::{Name, name_of, name_rank};
 use rule_parameters::numbers::FLAGS;
+use transition_links::links::LinkedAutomaton;
+
+// What is noted of the rules below one: their tables, one behind the other, their ranks, and which of their parameters are present.
+#[derive(Clone, Copy)]
+pub struct LowerRules<'a> {
+    pub tables: &'a [u8],
+    pub ranks: &'a [u8; MOST_RULES],
+    pub present: &'a [bool; FLAGS],
+}
 
 // The relation of a node from those of its children, in the first lanes.
 fn node(
-    alphabet: &[u8],
-    automaton: &[u8],
-    links: &[u8; 511],
-    spread: &[u64; 256],
-    tables: &[u8],
-    present: &[bool; FLAGS],
+    linked: &LinkedAutomaton,
+    lower: &LowerRules,
     name: Name,
     children: &[u64],
     choice: usize,
     lanes: usize,
 ) -> u64
-    requires { NodeReady alphabet.now automaton.now links.now spread.now tables.now children.now lanes (naming name) }
-    ensures { LanesAre lanes result (λ p. name_states (transitions_of alphabet.now automaton.now) (call_in tables.now present.now) (8 * choice + p) (lanes_at p children.now) (naming name)) }
+    requires { NodeReady linked.now.alphabet.now lower.now.tables.now children.now lanes (naming name) }
+    ensures { LanesAre lanes result (λ p. name_states (transitions_of linked.now.alphabet.now linked.now.automaton.now) (call_in lower.now.tables.now lower.now.present.now) (8 * choice + p) (lanes_at p children.now) (naming name)) }
 {
     match name {
-        Name::Terminal(f) => step_lanes(alphabet, automaton, links, f, children),
-        Name::Nonterminal(r) => call_lanes(spread, tables, present, r, children, lanes),
+        Name::Terminal(f) => step_lanes(linked, f, children),
+        Name::Nonterminal(r) => call_lanes(lower.tables, lower.present, r, children, lanes),
         Name::Parameter(j) => parameter_relation(j, choice),
         Name::Nothing => 0,
     }
@@ -39,39 +44,21 @@ fn node(
 // The relation of a right side, whose choice of states at the parameters behind the first is given: its first lanes are bytes of the rule's table. The tables of
 // the lower rules are there. The stack lies at the end of its array, from `low` on.
 pub fn side_relation(
-    alphabet: &[u8],
-    automaton: &[u8],
-    links: &[u8; 511],
-    spread: &[u64; 256],
-    tables: &[u8],
-    ranks: &[u8; MOST_RULES],
-    present: &[bool; FLAGS],
+    linked: &LinkedAutomaton,
+    lower: &LowerRules,
     nodes: &[u8],
     choice: usize,
     lanes: usize,
 ) -> u64
-    requires { SideReady alphabet.now automaton.now links.now spread.now tables.now ranks.now present.now nodes.now choice lanes }
-    ensures { (g : SideReady alphabet.now automaton.now links.now spread.now tables.now ranks.now present.now nodes.now choice lanes) → SideRelated g result }
+    requires { SideReady linked.now.alphabet.now linked.now.automaton.now lower.now.tables.now lower.now.ranks.now lower.now.present.now nodes.now choice lanes }
+    ensures { (g : SideReady linked.now.alphabet.now linked.now.automaton.now lower.now.tables.now lower.now.ranks.now lower.now.present.now nodes.now choice lanes) → SideRelated g result }
 {
     let mut stack = [0u64; MOST_NODES];
     let mut low = MOST_NODES;
-    let mut left = nodes.len();
-    while 0 < left {
-        left -= 1;
+    for left in (0..nodes.len()).rev() {
         let name = name_of(nodes[left]);
-        let end = low + name_rank(alphabet, ranks, name) as usize;
-        let relation = node(
-            alphabet,
-            automaton,
-            links,
-            spread,
-            tables,
-            present,
-            name,
-            &stack[low..end],
-            choice,
-            lanes,
-        );
+        let end = low + name_rank(linked.alphabet, lower.ranks, name) as usize;
+        let relation = node(linked, lower, name, &stack[low..end], choice, lanes);
         low = end - 1;
         stack[low] = relation;
     }

@@ -4,24 +4,18 @@
 ghost use Rattle.std.specs.Prelude.{◌≡◌, ◌+◌, ◌*◌, ◌<◌, ◌≤◌, length};
 ghost use Rattle.terms.specs.FormBytes.{rule_length, slot_of, calls_lower, unused_slot, slot_fits, slots_fit};
 
-use form_bytes::rule::{kind_of, slot_of};
+use form_bytes::rule::{UNUSED_SLOT, kind_of, slot_of};
 use terms::Rule;
 
 // How many slots a rule has.
 const SLOTS: u8 = 4;
-
-// What stands in a slot that is not used.
-const UNUSED_SLOT: u16 = 0xFFFF;
 
 // `called` is the number of a rule below `bound` that has the rank `rank`.
 pub fn calls_lower(table: &[u8], bound: usize, rank: u8, called: Rule) -> bool
     requires { rule_length * bound ≤ length table.now }
     ensures { result ≡ calls_lower table.now bound rank called.0 }
 {
-    if (called.0 as usize) < bound {
-        return kind_of(table, called) % 2 == rank;
-    }
-    false
+    (called.0 as usize) < bound && kind_of(table, called) % 2 == rank
 }
 
 // Slot `j` of `rule` calls a lower rule of the rank `rank`.
@@ -42,8 +36,7 @@ pub fn slot_unused(table: &[u8], rule: Rule, j: u8) -> bool
     requires { (rule_length * rule.0 + rule_length ≤ length table.now) × (j < 4) }
     ensures { result ≡ unused_slot (slot_of table.now rule.0 j) }
 {
-    let slot = slot_of(table, rule, j as usize);
-    slot.0 == UNUSED_SLOT
+    slot_of(table, rule, j as usize) == UNUSED_SLOT
 }
 
 // Slot `j` of f(A1..An), f of the rank `rank`: below the rank and away from the hole it calls a lower rule of rank 0, else it is not used.
@@ -51,13 +44,10 @@ fn slot_fits(table: &[u8], rule: Rule, rank: u8, hole: u8, j: u8) -> bool
     requires { (rule_length * rule.0 + rule_length ≤ length table.now) × (j < 4) }
     ensures { result ≡ slot_fits table.now rule.0 rank hole j }
 {
-    if rank <= j {
-        return slot_unused(table, rule, j);
+    if j < rank && j + 1 != hole {
+        return slot_calls(table, rule, 0, j);
     }
-    if j + 1 == hole {
-        return slot_unused(table, rule, j);
-    }
-    slot_calls(table, rule, 0, j)
+    slot_unused(table, rule, j)
 }
 
 // The slots of f(A1..An), f of the rank `rank`, all fit.
@@ -65,9 +55,7 @@ pub fn slots_fit(table: &[u8], rule: Rule, rank: u8, hole: u8) -> bool
     requires { rule_length * rule.0 + rule_length ≤ length table.now }
     ensures { result ≡ slots_fit table.now rule.0 rank hole }
 {
-    let mut j = SLOTS;
-    while 0 < j {
-        j -= 1;
+    for j in (0..SLOTS).rev() {
         if !slot_fits(table, rule, rank, hole, j) {
             return false;
         }

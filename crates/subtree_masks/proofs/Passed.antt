@@ -22,8 +22,7 @@ use Rattle.terms.proofs.Tree.Whole.{read}
 use Rattle.terms.proofs.Sheet.Grammar.{one_whole}
 use Rattle.terms.proofs.Sheet.Passed.{alphabet_passed, tree_passed}
 use Rattle.terms.proofs.Form.Bytes.{rank_le}
-use Rattle.transitions.specs.Step.{Ready}
-use Rattle.subtree_masks.specs.Readers.{Checked, trees_from}
+use Rattle.subtree_masks.specs.Readers.{trees_from}
 
 -- what the walk lets through
 pub record WalkPassed (alphabet automaton tree : List ℕ) (room : ℕ) : Type 0 where
@@ -87,10 +86,3 @@ module _ (alphabet tree : List ℕ) (passes : tree_refusal most_walked alphabet 
             let one = known-whole.1 in
             let z : ◌≡◌ {A = ℕ} 0 1 = cc in
             omega arith
-
--- the node at a position can step
-pub node_ready : {alphabet automaton links tree : List ℕ} {room : ℕ} → Checked alphabet automaton links tree room → (at : ℕ) → at < length tree
-    → Ready alphabet automaton links (get_or tree at 0)
-node_ready checked at there =
-    let p = walk_passed _ _ _ _ checked.passes in
-    record { alphabet_passes = p.alphabet_passes; automaton_passes = p.automaton_passes; linked = checked.linked; terminal = node-known _ _ p.tree_passes at there }

@@ -4,8 +4,7 @@ use Rattle.terms.specs.Tree.{Forest, preorders, firsts, forest_of}
 use Rattle.terms.specs.Grammar.{terminal_rank}
 use Rattle.terms.specs.Automaton.{masks}
 use Rattle.terms.specs.Sheet.{transitions_of}
-use Rattle.terms.specs.Calls.{walk_refusal, walk_mask}
-use Rattle.transition_links.specs.Links.{Linked}
+use Rattle.terms.specs.Calls.{walk_mask}
 
 -- the trees that stand from a position of a preorder tree on, one behind the other (01 Plain walk)
 abbrev pub trees_from : List ℕ → List ℕ → ℕ → Forest
@@ -18,11 +17,6 @@ end_of alphabet tree at n = at + length (preorders (firsts n (trees_from alphabe
 -- the masks of the first n of these trees (01 Plain walk)
 abbrev pub masks_from : List ℕ → List ℕ → List ℕ → ℕ → ℕ → List ℕ
 masks_from alphabet automaton tree at n = masks (transitions_of alphabet automaton) (firsts n (trees_from alphabet tree at))
-
--- nothing is refused, and the automaton's transitions are linked (01 Plain walk)
-pub record Checked (alphabet automaton links tree : List ℕ) (room : ℕ) : Type 0 where
-  pub passes : walk_refusal alphabet automaton tree room ≡ 0
-  pub linked : Linked automaton links
 
 -- a lent slice before and after the subtrees from `at` to `end` were read: each position among them has its subtree's mask, and the others are kept (01 Plain walk)
 pub record Noted (alphabet automaton tree : List ℕ) (at end : ℕ) (before after : List ℕ) : Type 0 where

@@ -2,10 +2,12 @@
 use Rattle.std.specs.Prelude.{Bool, false, cond, ◌||◌, List, ℕ, zero, suc, ◌+◌, ◌*◌, ltb, eqb, get_or, set, replicate}
 use Rattle.terms.specs.Refusal.{outside}
 use Rattle.terms.specs.Sheet.{accepted, declined}
-use Rattle.terms.specs.Answer.{refused, answered}
+use Rattle.terms.specs.Answer.{refused, answered, refusal_of}
 use Rattle.terms.specs.Calls.{MarkAnswer, tally_count, tally_refusal}
 use Rattle.tallies.specs.declared.tally.Tally.{Tally}
 use Rattle.tallies.specs.declared.tally.Step.{Step}
+use Rattle.tallies.specs.declared.tally.Way.{Way}
+use Rattle.tallies.specs.declared.tally.Way.TheVariants as ways
 use Rattle.tallies.specs.Turn.{Turn}
 
 -- Answers.
@@ -53,11 +55,26 @@ counted c mark counts = cond (moves mark) (up (3 * c + way mark) counts) counts
 
 -- Steps.
 
+-- the place of a way among the three counts of a candidate (02 R-1)
+abbrev pub place_of : Way → ℕ
+place_of ways.Accepted = 0
+place_of ways.Declined = 1
+place_of ways.TurnedAway = 2
+
+-- what is said of a step: the number of its refusal, 0 for none, and the tally that it leaves (02 R-1)
+pub record StepAnswer : Type 0 where
+  pub refusal : ℕ
+  pub tally : Tally
+
+-- what a step of the code says (02 R-1)
+abbrev pub answer_of_step : Step → StepAnswer
+answer_of_step s = record { refusal = refusal_of s.answer; tally = s.tally }
+
 -- a step of way w for candidate c, where the tally refuses by this number, 0 for none; way 0 is accept, 1 decline, 2 turn away (02 R-1)
-abbrev pub stepped : ℕ → ℕ → ℕ → Tally → Step
+abbrev pub stepped : ℕ → ℕ → ℕ → Tally → StepAnswer
 stepped zero c w t = record { refusal = 0; tally = record { counts = up (3 * c + w) t.counts } }
 stepped (suc n) c w t = record { refusal = suc n; tally = t }
 
 -- a step of way w for candidate c, refused by what refuses a marking first: 26, 25 (02 R-1)
-abbrev pub step : Tally → ℕ → ℕ → Step
+abbrev pub step : Tally → ℕ → ℕ → StepAnswer
 step t c w = stepped (tally_refusal t.counts c) c w t

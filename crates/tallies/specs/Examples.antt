@@ -5,9 +5,8 @@ use Rattle.terms.specs.Answer.{refused, answered}
 use Rattle.terms.specs.Calls.{MarkAnswer}
 use Rattle.terms.specs.Examples.{W, w_with}
 use Rattle.terms.specs.CallExamples.{counting}
-use Rattle.tallies.specs.declared.tally.Step.{Step}
 use Rattle.tallies.specs.Turn.{Turn}
-use Rattle.tallies.specs.Counts.{step}
+use Rattle.tallies.specs.Counts.{StepAnswer, step}
 use Rattle.tallies.specs.Lists.{Call}
 
 -- a call of candidate c, with 17 numbers lent (02 R-1)
@@ -32,8 +31,8 @@ listed_totals = 1 ∷ 1 ∷ 1 ∷ []
 
 -- a step and what it must answer (02 R-1)
 pub record StepRow : Type 0 where
-  pub gives : Step
-  pub says : Step
+  pub gives : StepAnswer
+  pub says : StepAnswer
 
 -- a step for candidate c with these counts, and the number and the counts that it must answer (02 R-1)
 abbrev pub step_row : List ℕ → ℕ → ℕ → ℕ → List ℕ → StepRow

@@ -4,6 +4,9 @@ use mathlib.Core.Bool.{Bool, true, false}
 use Prim.Native.Nat.{ℕ, zero, suc, ◌<◌}
 use native.Mathlib.Omega.{arith}
 use Rattle.terms.specs.Test.{tabulate}
+use Rattle.terms.specs.declared.refusals.Refusal.{Refusal}
+use Rattle.terms.specs.declared.refusals.Refusal.TheVariants as refusals
+use Rattle.terms.specs.Answer.{number_of}
 use Rattle.terms.specs.Refusal.{◌when◌, or_else, first}
 
 -- r is the first of two refusals: it is the first, or that is none and it is the second
@@ -59,3 +62,34 @@ first-refused zero f i l h r = absurd (omega arith)
 first-refused (suc n) f zero l h r = stops (f 0) (first (tabulate n (λ k. f (suc k)))) r
 first-refused (suc n) f (suc i) l h r =
     rw (h 0 (omega arith)) (first-refused n (λ k. f (suc k)) i (omega arith) (λ k m. h (suc k) (omega arith)) r)
+
+-- every refusal has a number above 0
+pub numbered : (e : Refusal) → number_of e ≡ 0 → ⊥
+numbered refusals.SheetLength h = absurd (omega arith)
+numbered refusals.Contents h = absurd (omega arith)
+numbered refusals.TerminalCount h = absurd (omega arith)
+numbered refusals.TerminalRank h = absurd (omega arith)
+numbered refusals.RulesEnd h = absurd (omega arith)
+numbered refusals.RuleCount h = absurd (omega arith)
+numbered refusals.NodeCount h = absurd (omega arith)
+numbered refusals.RuleRank h = absurd (omega arith)
+numbered refusals.NodeName h = absurd (omega arith)
+numbered refusals.RightSide h = absurd (omega arith)
+numbered refusals.Parameter h = absurd (omega arith)
+numbered refusals.StartRank h = absurd (omega arith)
+numbered refusals.AutomatonLength h = absurd (omega arith)
+numbered refusals.States h = absurd (omega arith)
+numbered refusals.Transition h = absurd (omega arith)
+numbered refusals.FormShort h = absurd (omega arith)
+numbered refusals.Form h = absurd (omega arith)
+numbered refusals.WorkShort h = absurd (omega arith)
+numbered refusals.TreeShort h = absurd (omega arith)
+numbered refusals.NoPlace h = absurd (omega arith)
+numbered refusals.TreeLong h = absurd (omega arith)
+numbered refusals.Tree h = absurd (omega arith)
+numbered refusals.SheetShort h = absurd (omega arith)
+numbered refusals.TallyFull h = absurd (omega arith)
+numbered refusals.Candidate h = absurd (omega arith)
+numbered refusals.DrawnRules h = absurd (omega arith)
+numbered refusals.OtherAlphabet h = absurd (omega arith)
+numbered refusals.NewTransition h = absurd (omega arith)

@@ -16,9 +16,16 @@ use Rattle.terms.specs.Sheet.{transition_byte}
 use Rattle.terms.proofs.Test.{is_true}
 use Rattle.terms.proofs.Automaton.Relation.{matrix_cong}
 use Rattle.transition_links.specs.Links.{First}
-use Rattle.transitions.specs.Step.{Usable, transition_with, leads}
+use Rattle.transitions.specs.Step.{transition_with, leads}
 use Rattle.relations.proofs.Laws.{some_gap}
 use Rattle.relations.proofs.Matrix.{no_pair, one_pair}
+
+-- transition i stands in the bytes, and its target and n child states are below 8
+pub record Usable (a : List ℕ) (n i : ℕ) : Type 0 where
+  pub whole : 8 + 6 * i ≤ length a
+  pub rank : n ≤ 4
+  pub target : transition_byte a i 1 < 8
+  pub children : (j : ℕ) → j < n → transition_byte a i (2 + j) < 8
 
 -- a transition of the node's terminal leads by its target and the state at the hole, where its child states are in the sets
 leads-there : (ms : List ℕ) (hole p q : ℕ) (τ : Transition) → all_in ms τ.children ≡ true

@@ -19,21 +19,25 @@ use Rattle.terms.proofs.Test.{is_true, of_true, both_1, some_cong}
 use Rattle.terms.proofs.Automaton.Bits.{has-set, set_cong, power_has}
 use Rattle.terms.proofs.Automaton.Step.{fires-out}
 use Rattle.terms.proofs.Automaton.Relation.{matrix-has, matrix_cong}
-use Rattle.transitions.specs.Step.{Walkable, transition_with, leads, pairs_of, closed_step, open_step}
+use Rattle.transitions.specs.Step.{transition_with, leads, pairs_of, closed_step, open_step}
 use Rattle.relations.proofs.Laws.{has-low, all_states, any-tabulate, any_cong, tabulate_part}
 use Rattle.relations.proofs.Matrix.{set-bits, power_has_is}
-use Rattle.transitions.proofs.Leads.{leads_other}
+use Rattle.transitions.proofs.Leads.{Usable, leads_other}
 
 -- The transitions of the automaton, and those of the walk.
 
-module _ (alphabet a links ms : List ℕ) (f : ℕ) (rank : terminal_rank alphabet f ≡ length ms) (w : Walkable a links f (length ms)) (hole : ℕ) where
+-- each transition of a terminal can be used with n child states
+abbrev pub AllUsable : List ℕ → ℕ → ℕ → Type 0
+AllUsable a f n = (i : ℕ) → i < transition_count a → transition_byte a i 0 ≡ f → Usable a n i
+
+module _ (alphabet a ms : List ℕ) (f : ℕ) (rank : terminal_rank alphabet f ≡ length ms) (usable : AllUsable a f (length ms)) (hole : ℕ) where
   same_transition : (p q i : ℕ) → i < transition_count a → leads f ms hole p q (transition_at alphabet a i) ≡ leads f ms hole p q (transition_with a (length ms) i)
   unfolding transition_at
   same_transition p q i h = go (ℕᴺ_discrete (transition_byte a i 0) f)
     where
       go : Dec (transition_byte a i 0 ≡ f) → leads f ms hole p q (transition_at alphabet a i) ≡ leads f ms hole p q (transition_with a (length ms) i)
       go (yes e) =
-          let u = w.usable i h e in
+          let u = usable i h e in
           let children : tabulate (terminal_rank alphabet (transition_byte a i 0)) (λ j. transition_byte a i (2 + j)) ≡ take (length ms) (drop (2 + 6 * i + 2) a) =
           ap (λ (n : ℕ). tabulate n (λ j. transition_byte a i (2 + j))) (ap (terminal_rank alphabet) e ∙ rank)
           ∙ tabulate_part (length ms) (2 + 6 * i + 2) a (λ j. transition_byte a i (2 + j)) (omega (arith, u.whole, u.rank)) (λ j k. ap (λ (m : ℕ). get_or a m 0) (omega arith)) in
@@ -73,11 +77,11 @@ row_zero g =
     set-bits 8 (matrix g % 256) (g 0) (omega arith)
     (λ q hq. has-low (matrix g) 8 q hq ∙ ap (has (matrix g)) (omega arith) ∙ matrix-has g 0 q (omega arith) hq)
 
-pub closed-step : (alphabet a links ms : List ℕ) (f : ℕ) → terminal_rank alphabet f ≡ length ms → Walkable a links f (length ms)
+pub closed-step : (alphabet a ms : List ℕ) (f : ℕ) → terminal_rank alphabet f ≡ length ms → AllUsable a f (length ms)
     → pairs_of a f ms (length ms) % 256 ≡ step (transitions_of alphabet a) f ms
 unfolding step
-closed-step alphabet a links ms f rank w =
-    ap (λ (x : ℕ). x % 256) (pairs_any alphabet a links ms f rank w (length ms)) ∙ row_zero (λ p q. any (leads f ms (length ms) p q) (transitions_of alphabet a))
+closed-step alphabet a ms f rank w =
+    ap (λ (x : ℕ). x % 256) (pairs_any alphabet a ms f rank w (length ms)) ∙ row_zero (λ p q. any (leads f ms (length ms) p q) (transitions_of alphabet a))
     ∙ set_cong 8 (λ q. any (leads f ms (length ms) 0 q) (transitions_of alphabet a)) (λ q. any (fires f ms q) (transitions_of alphabet a))
     (λ q hq. any_cong (leads f ms (length ms) 0 q) (fires f ms q) (transitions_of alphabet a) (λ τ. closed-leads f q ms τ))
 
@@ -106,13 +110,13 @@ open_leads f p q ms hole τ hp h =
     (and_assoc (eqb τ.target q) (all_in (set ms hole 255) τ.children) (eqb (get_or τ.children hole 0) p)
     ∙ ap (λ (t : Bool). eqb τ.target q && t) (open_in ms hole τ.children p hp h))
 
-pub open_step_lem : (alphabet a links ms : List ℕ) (f : ℕ) → terminal_rank alphabet f ≡ length ms → Walkable a links f (length ms) → (hole : ℕ) → hole < length ms
+pub open_step_lem : (alphabet a ms : List ℕ) (f : ℕ) → terminal_rank alphabet f ≡ length ms → AllUsable a f (length ms) → (hole : ℕ) → hole < length ms
     → pairs_of a f (set ms hole 255) hole ≡ matrix (λ p q. has (step (transitions_of alphabet a) f (set ms hole (2 ^ p))) q)
 unfolding step
-open_step_lem alphabet a links ms f rank w hole h =
+open_step_lem alphabet a ms f rank w hole h =
     let n : length (set ms hole 255) ≡ length ms = length-set ms hole 255 in
     let δ = transitions_of alphabet a in
-    pairs_any alphabet a links (set ms hole 255) f (rank ∙ sym n) (rw n w) hole
+    pairs_any alphabet a (set ms hole 255) f (rank ∙ sym n) (rw n w) hole
     ∙ matrix_cong (λ p q. any (leads f (set ms hole 255) hole p q) δ) (λ p q. has (step δ f (set ms hole (2 ^ p))) q)
     (λ p q hp hq.
     any_cong (leads f (set ms hole 255) hole p q) (fires f (set ms hole (2 ^ p)) q) δ (λ τ. open_leads f p q ms hole τ hp h)

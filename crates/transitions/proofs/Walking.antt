@@ -3,14 +3,13 @@ use mathlib.Core.Path.{◌≡◌, ap, ◌∙◌}
 use mathlib.Core.Bool.{Bool}
 use mathlib.Core.List.{List}
 use Prim.Native.Nat.{ℕ, ◌+◌, ◌≤◌, ◌<◌}
-use native.Mathlib.Omega.{arith}
 use lib.Bits.{bit_or}
-use lib.ListN.{length, get_or}
+use lib.ListN.{length}
 use Rattle.terms.specs.Test.{some}
 use Rattle.terms.specs.Relation.{matrix}
 use Rattle.terms.specs.Sheet.{transition_count, transition_byte}
-use Rattle.transition_links.specs.Links.{First, heads}
-use Rattle.transitions.specs.Step.{Walkable, transition_with, leads, pair_of}
+use Rattle.transition_links.specs.Links.{First}
+use Rattle.transitions.specs.Step.{transition_with, leads, pair_of}
 use Rattle.relations.proofs.Matrix.{union_none, union_more}
 use Rattle.transitions.proofs.Leads.{pairs_gap}
 
@@ -27,21 +26,11 @@ module _ (a ms : List ℕ) (f hole : ℕ) where
   pub starts : (j : ℕ) → First a f 0 j → Walked 0 j
   starts j h = record { within = h.within; here = h.here; found = union_none at ∙ pairs_gap a ms f hole 0 j h }
 
-  pub goes_on : (pairs pair i j : ℕ) → Walked pairs i → transition_byte a i 0 ≡ f
-      → pair ≡ pair_of a i ms hole → First a (transition_byte a i 0) (i + 1) j
-      → Walked (bit_or pair pairs) j
-  goes_on pairs pair i j w e is h =
-      let first : First a f (i + 1) j = rw e at h in
+  pub goes_on : (pairs pair i j : ℕ) → Walked pairs i → transition_byte a i 0 ≡ f → pair ≡ pair_of a i ms hole → First a f (i + 1) j → Walked (bit_or pair pairs) j
+  goes_on pairs pair i j w e is first =
       let of-f = is ∙ ap (λ (g : ℕ). matrix (λ p q. leads g ms hole p q (transition_with a (length ms) i))) e in
       record {
-        within = h.within;
+        within = first.within;
         here = first.here;
         found = union_more at pair pairs i of-f w.found ∙ pairs_gap a ms f hole (i + 1) j first;
       }
-
-module _ (a links : List ℕ) (f n : ℕ) (w : Walkable a links f n) where
-  pub link_small : (i : ℕ) → i < transition_count a → get_or links i 0 < 256
-  link_small i h = omega (arith, w.few, (w.linked.next i h).within)
-
-  pub head_small : f < 256 → get_or links (heads + f) 0 < 256
-  head_small h = omega (arith, w.few, (w.linked.head f h).within)

@@ -1,19 +1,10 @@
--- What a step of a node through an automaton asks and gives, and what the walk over the transitions of its terminal finds.
-use Rattle.std.specs.Prelude.{◌≡◌, Bool, ◌&&◌, List, ℕ, ◌+◌, ◌*◌, ◌^◌, ◌≤◌, ◌<◌, eqb, length, get_or, take, drop, set}
+-- What a step of a node through an automaton gives, and what the walk over the transitions of its terminal finds.
+use Rattle.std.specs.Prelude.{Bool, ◌&&◌, List, ℕ, ◌+◌, ◌*◌, ◌^◌, eqb, length, get_or, take, drop, set}
 use Rattle.terms.specs.Test.{some}
 use Rattle.terms.specs.Grammar.{terminal_rank}
 use Rattle.terms.specs.Automaton.{Transition, has, fires, step}
 use Rattle.terms.specs.Relation.{matrix}
 use Rattle.terms.specs.Sheet.{transition_count, transition_byte, transitions_of}
-use Rattle.terms.specs.Check.{most_transitions, alphabet_refusal, automaton_refusal}
-use Rattle.transition_links.specs.Links.{Linked}
-
--- an alphabet and an automaton that pass their checks, the automaton's links, and a terminal f of the alphabet
-pub record Ready (alphabet a links : List ℕ) (f : ℕ) : Type 0 where
-  pub alphabet_passes : alphabet_refusal alphabet ≡ 0
-  pub automaton_passes : automaton_refusal alphabet a ≡ 0
-  pub linked : Linked a links
-  pub terminal : f < length alphabet
 
 -- the states that a node f can take, whose children can take the sets; only as many sets count as the rank of f (01 Mask from the form)
 abbrev pub closed_step : List ℕ → List ℕ → ℕ → List ℕ → ℕ
@@ -24,21 +15,7 @@ abbrev pub open_step : List ℕ → List ℕ → ℕ → List ℕ → ℕ → �
 open_step alphabet a f sets hole =
     matrix (λ p q. has (step (transitions_of alphabet a) f (set (take (terminal_rank alphabet f) sets) hole (2 ^ p))) q)
 
--- What the walk asks and finds; no document defines these.
-
--- transition i stands in the bytes, and its target and n child states are below 8
-pub record Usable (a : List ℕ) (n i : ℕ) : Type 0 where
-  pub whole : 8 + 6 * i ≤ length a
-  pub rank : n ≤ 4
-  pub target : transition_byte a i 1 < 8
-  pub children : (j : ℕ) → j < n → transition_byte a i (2 + j) < 8
-
--- the automaton's links, and that each transition of terminal f can be used with n child states
-pub record Walkable (a links : List ℕ) (f n : ℕ) : Type 0 where
-  pub long : 2 ≤ length a
-  pub few : transition_count a ≤ most_transitions
-  pub linked : Linked a links
-  pub usable : (i : ℕ) → i < transition_count a → transition_byte a i 0 ≡ f → Usable a n i
+-- What the walk finds; no document defines these.
 
 -- transition i with n child states
 abbrev pub transition_with : List ℕ → ℕ → ℕ → Transition

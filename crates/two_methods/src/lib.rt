@@ -6,12 +6,12 @@ ghost use Rattle.two_methods.specs.Methods.{BothCalled, SameMask};
 
 use blackboard::blackboard;
 use certificate::certify::{Answers, certify};
-use terms::answers::MaskAnswer;
+use terms::refusals::Refusal;
 
 // What both methods answer.
-#[derive(Clone, Copy)]
+#[derive(Clone, Copy, Debug, PartialEq, Eq)]
 pub struct BothAnswers {
-    pub tabled: MaskAnswer,
+    pub tabled: Result<u8, Refusal>,
     pub certified: Answers,
 }
 

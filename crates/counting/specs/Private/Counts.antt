@@ -3,7 +3,7 @@ use Rattle.std.specs.Prelude.{◌≡◌, List, [], ◌∷◌, ℕ, ◌+◌, ◌*
 use Rattle.std.proofs.lemmas.List.Edits.{sets}
 use Rattle.terms.specs.Test.{tabulate, joined}
 use Rattle.terms.specs.Form.{Rule, whole, pierced, filled, composed, value_at}
-use Rattle.terms.specs.FormBytes.{rule_length, table_count, slot_of, table_rules}
+use Rattle.terms.specs.FormBytes.{table_count, slot_of, table_rules}
 use Rattle.terms.specs.Count.{capped}
 use Rattle.terms.specs.Calls.{counts_per_rule, value_counts, rules_counts}
 use Rattle.forms.specs.Private.Table.{ValidTable}
@@ -61,9 +61,9 @@ pub record CountedRule (counts : List ℕ) (rule : Rule) (n m : ℕ) : Type 0 wh
 abbrev pub slots_from : (ℕ → ℕ) → ℕ → ℕ → List ℕ
 slots_from slot from to = tabulate (to - from) (λ j. slot (from + j))
 
--- the slots from one up to another of rule i are in the table, and name rules that have counts (01 Unfolding)
+-- the slots from one up to another of rule i of the table name rules that have counts (01 Unfolding)
 pub record Readable (table counts : List ℕ) (i from to : ℕ) : Type 0 where
-  pub long : rule_length * i + rule_length ≤ length table
+  pub rule : i < table_count table
   pub order : from ≤ to
   pub few : to ≤ 4
   pub low : (j : ℕ) → from ≤ j → j < to → HasCounts counts (slot_of table i j)

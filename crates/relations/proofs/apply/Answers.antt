@@ -1,5 +1,4 @@
 -- `relations::apply` meets its contract: `pairs` picks the rows of the states, and the folds join them.
-use borrow.Author.Rules.{rules}
 use Rattle.relations.proofs.Fold.{joined, joined_is}
 use Rattle.relations.proofs.apply.Goals as goal
 

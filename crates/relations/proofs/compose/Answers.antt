@@ -1,10 +1,8 @@
 use mathlib.Core.Path.{◌≡◌, ap, ap₂, ◌∙◌}
 use mathlib.Core.Bool.{Bool, ◌&&◌}
-use Prim.Native.Nat.{ℕ, ◌-◌, ◌*◌, ◌/◌, ◌^◌, ◌≤◌}
+use Prim.Native.Nat.{ℕ}
 use native.Mathlib.Omega.{arith}
-use borrow.Author.Rules.{rules}
 use Rattle.terms.specs.Test.{some}
-use Rattle.terms.specs.Automaton.{has}
 use Rattle.terms.specs.Relation.{matrix, related, compose_bits}
 use Rattle.terms.proofs.Test.{some_cong}
 use Rattle.terms.proofs.Automaton.Relation.{matrix-has, matrix_cong}

@@ -1,15 +1,10 @@
 -- `relations::compose` meets its contract. The loop's invariant: `composed` has the pairs that a state before m lies between.
-use mathlib.Core.Path.{◌≡◌, ap, ap₂, ◌∙◌}
+use mathlib.Core.Path.{◌≡◌}
 use mathlib.Core.Bool.{Bool, ◌&&◌}
 use Prim.Native.Nat.{ℕ, ◌-◌, ◌*◌, ◌/◌, ◌^◌, ◌≤◌}
-use native.Mathlib.Omega.{arith}
-use borrow.Author.Rules.{rules}
 use Rattle.terms.specs.Test.{some}
 use Rattle.terms.specs.Automaton.{has}
-use Rattle.terms.specs.Relation.{matrix, related, compose_bits}
-use Rattle.terms.proofs.Test.{some_cong}
-use Rattle.terms.proofs.Automaton.Relation.{matrix-has, matrix_cong}
-use Rattle.relations.proofs.Matrix.{row_has, union_none, union_more}
+use Rattle.terms.specs.Relation.{matrix}
 use Rattle.relations.proofs.compose.Given as goal
 
 -- `relations::compose` meets its contract. The loop's invariant: `composed` has the pairs that a state before m lies between.

@@ -1,11 +1,10 @@
 -- `relations::pairs` meets its contract: the table gives the spread of the first set, and its product with the second set has the pairs.
-use borrow.Author.Rules.{rules}
 use Rattle.terms.proofs.Automaton.Relation.{matrix_lt}
-use Rattle.relations.proofs.Lanes.{table_times}
+use Rattle.relations.proofs.Lanes.{spread-times}
 use Rattle.relations.proofs.pairs.Goals as goal
 
 pub overflow_mul-result : goal.overflow_mul-result
-overflow_mul-result c = rw ((table_times c.args.table.now c.requires c.args.from c.args.to)) (record { fits = matrix_lt _ })
+overflow_mul-result c = rw (c.spread.ensures, spread-times c.args.from c.args.to) (record { fits = matrix_lt _ })
 
 pub returns : goal.returns
-returns c = table_times c.args.table.now c.requires c.args.from c.args.to
+returns c = rw c.spread.ensures (spread-times c.args.from c.args.to)

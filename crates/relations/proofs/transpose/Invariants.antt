@@ -1,18 +1,10 @@
 -- `relations::transpose` meets its contract. The loop's invariant: `columns` has the rows before p, each as a column.
-use mathlib.Core.Path.{◌≡◌, ap, subst, ◌∙◌}
+use mathlib.Core.Path.{◌≡◌}
 use mathlib.Core.Bool.{Bool, ◌&&◌}
-use Prim.Native.Nat.{ℕ, ◌-◌, ◌*◌, ◌/◌, ◌^◌, ◌≤◌, ◌<◌}
-use native.Mathlib.Omega.{arith}
-use lib.Dec.{T}
-use borrow.Author.Rules.{rules}
+use Prim.Native.Nat.{ℕ, ◌-◌, ◌*◌, ◌/◌, ◌^◌, ◌≤◌}
 use Rattle.terms.specs.Test.{some}
 use Rattle.terms.specs.Automaton.{has}
-use Rattle.terms.specs.Relation.{matrix, related}
-use Rattle.terms.proofs.Test.{same_test, both, both_0, both_1, some_in, some_out}
-use Rattle.terms.proofs.Automaton.Bits.{power_has, power_only}
-use Rattle.terms.proofs.Automaton.Relation.{matrix_cong}
-use Rattle.relations.proofs.Laws.{one_shl}
-use Rattle.relations.proofs.Matrix.{row_has, union_none, union_more}
+use Rattle.terms.specs.Relation.{matrix}
 use Rattle.relations.proofs.transpose.Given as goal
 
 -- `relations::transpose` meets its contract. The loop's invariant: `columns` has the rows before p, each as a column.

@@ -30,26 +30,23 @@ returns-then-fourth_of-ne0 c = rw (← c.fourth_of.ensures, ne_eqb _ _ c.if-four
 
 pub returns-in-0 : goal.returns-in-0
 returns-in-0 c =
-    let fields : let a = c.args in let f = c.terminal_of-terminal.result.0 in rule_fits a.alphabet.now a.table.now a.rule.0 ≡ kind_fits a.table.now a.rule.0 c.kind_of-kind.result (length a.alphabet.now) f (terminal_rank a.alphabet.now f) c.hole_of-hole.result = by_kind _ _ _ _ _ _ (sym c.fourth_of.ensures ∙ c.if-fourth_of-ne0.false) c.kind_of-kind.ensures c.terminal_of-terminal.ensures c.hole_of-hole.ensures in
-    rw (c.whole_fits.ensures, fields, c.in-0.is)
+    rw (c.whole_fits.ensures, by_kind _ _ _ _ _ _ (sym c.fourth_of.ensures ∙ c.if-fourth_of-ne0.false) c.kind_of-kind.ensures c.terminal_of-terminal.ensures c.hole_of-hole.ensures, c.in-0.is)
 
 pub returns-in-1 : goal.returns-in-1
 returns-in-1 c =
-    let fields : let a = c.args in let f = c.terminal_of-terminal.result.0 in rule_fits a.alphabet.now a.table.now a.rule.0 ≡ kind_fits a.table.now a.rule.0 c.kind_of-kind.result (length a.alphabet.now) f (terminal_rank a.alphabet.now f) c.hole_of-hole.result = by_kind _ _ _ _ _ _ (sym c.fourth_of.ensures ∙ c.if-fourth_of-ne0.false) c.kind_of-kind.ensures c.terminal_of-terminal.ensures c.hole_of-hole.ensures in
-    rw (c.pierced_fits.ensures, fields, c.in-1.is)
+    rw (c.pierced_fits.ensures, by_kind _ _ _ _ _ _ (sym c.fourth_of.ensures ∙ c.if-fourth_of-ne0.false) c.kind_of-kind.ensures c.terminal_of-terminal.ensures c.hole_of-hole.ensures, c.in-1.is)
 
 pub returns-in-2 : goal.returns-in-2
 returns-in-2 c =
-    let fields : let a = c.args in let f = c.terminal_of-terminal.result.0 in rule_fits a.alphabet.now a.table.now a.rule.0 ≡ kind_fits a.table.now a.rule.0 c.kind_of-kind.result (length a.alphabet.now) f (terminal_rank a.alphabet.now f) c.hole_of-hole.result = by_kind _ _ _ _ _ _ (sym c.fourth_of.ensures ∙ c.if-fourth_of-ne0.false) c.kind_of-kind.ensures c.terminal_of-terminal.ensures c.hole_of-hole.ensures in
-    rw (c.chain_fits.ensures, fields, c.in-2.is)
+    rw (c.chain_fits.ensures, by_kind _ _ _ _ _ _ (sym c.fourth_of.ensures ∙ c.if-fourth_of-ne0.false) c.kind_of-kind.ensures c.terminal_of-terminal.ensures c.hole_of-hole.ensures, c.in-2.is)
 
 pub returns-in-3 : goal.returns-in-3
 returns-in-3 c =
-    let fields : let a = c.args in let f = c.terminal_of-terminal.result.0 in rule_fits a.alphabet.now a.table.now a.rule.0 ≡ kind_fits a.table.now a.rule.0 c.kind_of-kind.result (length a.alphabet.now) f (terminal_rank a.alphabet.now f) c.hole_of-hole.result = by_kind _ _ _ _ _ _ (sym c.fourth_of.ensures ∙ c.if-fourth_of-ne0.false) c.kind_of-kind.ensures c.terminal_of-terminal.ensures c.hole_of-hole.ensures in
-    rw (c.chain_fits-in-3.ensures, fields, c.in-3.is)
+    rw (c.chain_fits-in-3.ensures, by_kind _ _ _ _ _ _ (sym c.fourth_of.ensures ∙ c.if-fourth_of-ne0.false) c.kind_of-kind.ensures c.terminal_of-terminal.ensures c.hole_of-hole.ensures, c.in-3.is)
 
 pub returns-in_default : goal.returns-in_default
 returns-in_default c =
-    let fields : let a = c.args in let f = c.terminal_of-terminal.result.0 in rule_fits a.alphabet.now a.table.now a.rule.0 ≡ kind_fits a.table.now a.rule.0 c.kind_of-kind.result (length a.alphabet.now) f (terminal_rank a.alphabet.now f) c.hole_of-hole.result = by_kind _ _ _ _ _ _ (sym c.fourth_of.ensures ∙ c.if-fourth_of-ne0.false) c.kind_of-kind.ensures c.terminal_of-terminal.ensures c.hole_of-hole.ensures in
     let above : 4 ≤ c.kind_of-kind.result = omega arith in
-    sym (fields ∙ no_kind _ _ _ _ _ _ _ above)
+    sym
+    (by_kind _ _ _ _ _ _ (sym c.fourth_of.ensures ∙ c.if-fourth_of-ne0.false) c.kind_of-kind.ensures c.terminal_of-terminal.ensures c.hole_of-hole.ensures
+    ∙ no_kind _ _ _ _ _ _ _ above)

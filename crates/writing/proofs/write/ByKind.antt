@@ -142,7 +142,7 @@ module _ (alphabet table : List ℕ) (i : ℕ) where
         go (inl e) = filled-chain (slot 0) (slot 1) (is-filled alphabet table known.valid i below (sym e))
         go (inr g) = composed-chain (slot 0) (slot 1) (is-composed alphabet table known.valid i below g)
 
-    pub whole-node : {f n : ℕ} → f ≡ terminal → n ≡ terminal_rank alphabet f → rule_byte table i 0 ≡ 0 → Whole f n
+    pub whole-node : {f n : ℕ} → f ≡ terminal → n ≡ terminal_rank alphabet terminal → rule_byte table i 0 ≡ 0 → Whole f n
     whole-node e e' kind =
         let is = rw (← slots-all slot rank) at (is_whole alphabet table known.valid i below kind) in
         rw (e', e)
@@ -153,7 +153,7 @@ module _ (alphabet table : List ℕ) (i : ℕ) where
           last = after_is _ is;
         }
 
-    pub pierced-node : {f n h : ℕ} → f ≡ terminal → n ≡ terminal_rank alphabet f → h ≡ hole → rule_byte table i 0 ≡ 1 → Pierced f n h
+    pub pierced-node : {f n h : ℕ} → f ≡ terminal → n ≡ terminal_rank alphabet terminal → h ≡ hole → rule_byte table i 0 ≡ 1 → Pierced f n h
     pierced-node e e' e'' kind =
         let is = rw (← slots-all slot (hole - 1)) at (is-pierced alphabet table known.valid i below kind) in
         let (some, within) = hole-within alphabet table known.valid i below kind in

@@ -4,7 +4,7 @@ use mathlib.Core.Bool.{Bool, false, ◌||◌}
 use Prim.Native.Nat.{ℕ, ◌<◌}
 use native.Mathlib.Omega.{arith}
 use borrow.Author.Tests.{ltb-false}
-use lib.Dec.{ltb, lit<}
+use lib.Dec.{ltb}
 use Rattle.terms.specs.Check.{automaton_refusal}
 use Rattle.terms.proofs.Test.{or_false}
 use Rattle.automata.proofs.check.check_automaton.Goals as goal
@@ -22,16 +22,16 @@ unfolding automaton_refusal
 returns-then-wrong_states c =
     rw (← c.wrong_length.ensures, c.if-wrong_length.false, ← c.wrong_states.ensures, c.if-wrong_states.true)
 
-pub returns-then-transitions_fit : goal.returns-then-transitions_fit
+pub returns-then-not-transitions_fit : goal.returns-then-not-transitions_fit
 unfolding automaton_refusal
-returns-then-transitions_fit c =
+returns-then-not-transitions_fit c =
     rw (
       ← c.wrong_length.ensures,
       c.if-wrong_length.false,
       ← c.wrong_states.ensures,
       c.if-wrong_states.false,
       ← c.transitions_fit.ensures,
-      c.if-transitions_fit.true,
+      c.if-not-transitions_fit.true,
     )
 
 pub returns : goal.returns
@@ -43,5 +43,5 @@ returns c =
       ← c.wrong_states.ensures,
       c.if-wrong_states.false,
       ← c.transitions_fit.ensures,
-      c.if-transitions_fit.false,
+      c.if-not-transitions_fit.false,
     )

@@ -1,14 +1,11 @@
 -- `automata::check::children_fit` meets its contract. The invariant: all child states fit if those below j do.
-use mathlib.Core.Path.{◌≡◌, refl, sym, ◌∙◌}
+use mathlib.Core.Path.{◌≡◌}
 use mathlib.Core.Bool.{Bool}
 use mathlib.Core.List.{List}
 use Prim.Native.Nat.{ℕ, ◌+◌, ◌≤◌}
-use native.Mathlib.Omega.{arith}
-use borrow.Author.Tests.{not-true, not-false}
 use Rattle.terms.specs.Test.{every}
 use Rattle.terms.specs.Sheet.{state_count, transition_byte}
 use Rattle.terms.specs.Check.{child_fits}
-use Rattle.terms.proofs.Scan.{every_fails, every-passes, every-done}
 use Rattle.automata.proofs.check.children_fit.Given as goal
 
 -- `automata::check::children_fit` meets its contract. The invariant: all child states fit if those below j do.
@@ -18,6 +15,3 @@ fits automaton i rank k = child_fits (state_count automaton) rank k (transition_
 
 abbrev pub invariant-loop-j : goal.invariant-loop-j
 invariant-loop-j l = (l.j ≤ 4) × (every 4 (fits l.automaton l.i l.rank) ≡ every l.j (fits l.automaton l.i l.rank))
-
-abbrev pub decreases-loop-j : goal.decreases-loop-j
-decreases-loop-j l = l.j

@@ -1,7 +1,5 @@
 -- `automata::check::transition_fits` meets its contract: the tests are those of the definition, in its order.
 use native.Mathlib.Nat.{add-zero}
-use native.Mathlib.Omega.{arith}
-use borrow.Author.Rules.{rules}
 use borrow.Author.Tests.{lt-ltb, le-ltb}
 use Rattle.terms.specs.Check.{transition_fits}
 use Rattle.automata.proofs.check.transition_fits.Goals as goal

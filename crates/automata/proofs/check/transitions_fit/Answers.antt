@@ -1,10 +1,6 @@
-use mathlib.Core.Path.{◌≡◌, sym, ◌∙◌}
-use Prim.Native.Nat.{◌≤◌}
+use mathlib.Core.Path.{sym, ◌∙◌}
 use native.Mathlib.Omega.{arith}
-use borrow.Author.Tests.{not-true, not-false}
-use Rattle.terms.specs.Test.{every}
 use Rattle.terms.specs.Sheet.{transition_count}
-use Rattle.terms.specs.Check.{transition_fits}
 use Rattle.terms.proofs.Scan.{every_fails, every-passes, every-done}
 use Rattle.automata.proofs.check.transitions_fit.Goals as goal
 

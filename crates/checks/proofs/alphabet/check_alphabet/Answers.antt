@@ -12,12 +12,12 @@ returns-then-alphabet-lt1 c =
       | then-alphabet-lt1-via-else-alphabet-lt1+then-alphabet-gt-MOST_TERMINALS w ↦ rw (le-ltb _ _ w.if-alphabet-lt1.false, lt-ltb _ _ w.if-alphabet-gt-MOST_TERMINALS.true)
     ]
 
-pub returns-then-ranks_fit : goal.returns-then-ranks_fit
+pub returns-then-not-ranks_fit : goal.returns-then-not-ranks_fit
 unfolding alphabet_refusal
-returns-then-ranks_fit c =
-    rw (le-ltb _ _ c.if-alphabet-lt1.false, le-ltb _ _ c.if-alphabet-gt-MOST_TERMINALS.false, ← c.ranks_fit.ensures, c.if-ranks_fit.true)
+returns-then-not-ranks_fit c =
+    rw (le-ltb _ _ c.if-alphabet-lt1.false, le-ltb _ _ c.if-alphabet-gt-MOST_TERMINALS.false, ← c.ranks_fit.ensures, c.if-not-ranks_fit.true)
 
 pub returns : goal.returns
 unfolding alphabet_refusal
 returns c =
-    rw (le-ltb _ _ c.if-alphabet-lt1.false, le-ltb _ _ c.if-alphabet-gt-MOST_TERMINALS.false, ← c.ranks_fit.ensures, c.if-ranks_fit.false)
+    rw (le-ltb _ _ c.if-alphabet-lt1.false, le-ltb _ _ c.if-alphabet-gt-MOST_TERMINALS.false, ← c.ranks_fit.ensures, c.if-not-ranks_fit.false)

@@ -7,10 +7,10 @@ pub returns-then-most-tree : goal.returns-then-most-tree
 unfolding tree_refusal
 returns-then-most-tree c = rw (lt-ltb _ _ c.if-most-tree.true)
 
-pub returns-then-is_tree : goal.returns-then-is_tree
+pub returns-then-not-is_tree : goal.returns-then-not-is_tree
 unfolding tree_refusal
-returns-then-is_tree c = rw (le-ltb _ _ c.if-most-tree.false, ← c.is_tree.ensures, c.if-is_tree.true)
+returns-then-not-is_tree c = rw (le-ltb _ _ c.if-most-tree.false, ← c.is_tree.ensures, c.if-not-is_tree.true)
 
 pub returns : goal.returns
 unfolding tree_refusal
-returns c = rw (le-ltb _ _ c.if-most-tree.false, ← c.is_tree.ensures, c.if-is_tree.false)
+returns c = rw (le-ltb _ _ c.if-most-tree.false, ← c.is_tree.ensures, c.if-not-is_tree.false)

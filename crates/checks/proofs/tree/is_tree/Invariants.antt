@@ -6,6 +6,3 @@ use Rattle.checks.proofs.tree.is_tree.Given as goal
 
 abbrev pub invariant-loop-i : goal.invariant-loop-i
 invariant-loop-i l = (l.trees + l.i ≤ length l.tree) × Seen l.alphabet l.tree l.i l.trees
-
-abbrev pub decreases-loop-i : goal.decreases-loop-i
-decreases-loop-i l = l.i

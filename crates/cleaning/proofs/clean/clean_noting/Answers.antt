@@ -1,58 +1,60 @@
 use mathlib.Core.Path.{refl}
-use Prim.Native.Nat.{◌-◌, ◌≤◌}
+use borrow.Author.Rules.{rules}
+use mathlib.Core.Logic.{inl}
+use Prim.Native.Nat.{◌≤◌}
+use lib.ListN.{length}
 use native.Mathlib.Omega.{arith}
-use lib.ListN.{length, take, drop}
-use Rattle.grammars.proofs.Body.{Standing}
+use Rattle.cleaning.specs.Clean.{longest_body, GrammarBody}
+use Rattle.grammars.proofs.Turns.{Turn, turn}
 use Rattle.cleaning.proofs.Parts.{part_long}
-use Rattle.cleaning.proofs.Cleaning.{Cleaning, none-cleaned, in_body, in_span, room-there, part_ready, rule-cleaned, short-body, all-cleaned}
+use Rattle.cleaning.proofs.Cleaning.{Cleaning, none-cleaned, room-there, part_ready, rule-cleaned, short-body, few-left, all-cleaned}
 use Rattle.cleaning.proofs.clean.clean_noting.Goals as goal
+use Rattle.cleaning.proofs.clean.clean_noting.Goals.{In-Some}
 
-pub loop-rule-init : goal.loop-rule-init
-loop-rule-init c = λ g enough. none-cleaned g enough c.requires.2 c.requires.3 refl refl
+module _ (c : In-Some) (g : GrammarBody c.args.alphabet.now c.args.body.now) (enough : longest_body ≤ length c.args.cleaned.now) where
+  -- the rules before the present one are cleaned
+  before : Cleaning g enough c.loop-number.number-iterator.iter.body.now c.loop-number.to c.in-Some.number c.loop-number.notes c.loop-number.cleaned
+  before = rw c.in-Some.ensures.steps.1 (c.loop-number.invariant g enough)
 
-pub span_at-span-requires : goal.span_at-span-requires
-span_at-span-requires c =
-    let known : Cleaning c.requires.0 c.requires.1 c.loop-rule.at c.loop-rule.to c.loop-rule.rule.0 c.loop-rule.ranks c.loop-rule.present c.loop-rule.alone c.loop-rule.cleaned = c.loop-rule.invariant c.requires.0 c.requires.1 in
-    in_body c.requires.0 c.requires.1 known c.loop-rule-test.true
+  -- the present rule is the first of those that are left
+  present : Turn c.args.body.now c.in-Some.number c.loop-number.number-iterator.iter.body.now (record { rank = c.in-Some.rule.rank; nodes = c.in-Some.rule.nodes.now }) c.next.new.self.iter.body.now
+  present = turn before.read c.in-Some.ensures.steps.0
 
-pub slice_bounds-clean_rule-end : goal.slice_bounds-clean_rule-end
-slice_bounds-clean_rule-end c =
-    let known : Cleaning c.requires.0 c.requires.1 c.loop-rule.at c.loop-rule.to c.loop-rule.rule.0 c.loop-rule.ranks c.loop-rule.present c.loop-rule.alone c.loop-rule.cleaned = c.loop-rule.invariant c.requires.0 c.requires.1 in
-    let there : Standing c.args.body.now c.loop-rule.at c.loop-rule.rule.0 c.span_at-span.result = in_span c.requires.0 c.requires.1 known c.loop-rule-test.true c.span_at-span.ensures in
-    omega (arith, there.whole)
+pub loop-number-init : goal.loop-number-init
+loop-number-init c =
+    λ g enough. rw (c.into_iter-number-iterator.ensures.into_iter_gives, c.enumerate-number-items.ensures.source, c.enumerate-number-items.ensures.count) (none-cleaned g enough (omega arith) (omega arith) (omega arith) refl)
 
-pub slice_bounds-clean_rule-count-in-loop-rule : goal.slice_bounds-clean_rule-count-in-loop-rule
-slice_bounds-clean_rule-count-in-loop-rule c =
-    let known : Cleaning c.requires.0 c.requires.1 c.loop-rule.at c.loop-rule.to c.loop-rule.rule.0 c.loop-rule.ranks c.loop-rule.present c.loop-rule.alone c.loop-rule.cleaned = c.loop-rule.invariant c.requires.0 c.requires.1 in
-    let within : c.loop-rule.to ≤ length c.loop-rule.cleaned = room-there c.requires.0 c.requires.1 known c.loop-rule-test.true c.span_at-span.ensures in
-    omega (arith, within)
+pub next-requires : goal.next-requires
+next-requires c = (tt, tt, inl (omega (arith, few-left c.requires.0 c.requires.1 (c.loop-number.invariant c.requires.0 c.requires.1))))
 
-pub slice_bounds-clean_rule-start-in-loop-rule : goal.slice_bounds-clean_rule-start-in-loop-rule
-slice_bounds-clean_rule-start-in-loop-rule c =
-    let known : Cleaning c.requires.0 c.requires.1 c.loop-rule.at c.loop-rule.to c.loop-rule.rule.0 c.loop-rule.ranks c.loop-rule.present c.loop-rule.alone c.loop-rule.cleaned = c.loop-rule.invariant c.requires.0 c.requires.1 in
-    let within : c.loop-rule.to ≤ length c.loop-rule.cleaned = room-there c.requires.0 c.requires.1 known c.loop-rule-test.true c.span_at-span.ensures in
-    omega (arith, within)
+pub slice_bounds-clean_rule-count : goal.slice_bounds-clean_rule-count
+slice_bounds-clean_rule-count c =
+    let d = (goal.at.slice_bounds-clean_rule-count c).In-Some in
+    room-there c.requires.0 c.requires.1 (before d c.requires.0 c.requires.1) (present d c.requires.0 c.requires.1)
+
+pub slice_bounds-clean_rule-start : goal.slice_bounds-clean_rule-start
+slice_bounds-clean_rule-start c =
+    let d = (goal.at.slice_bounds-clean_rule-start c).In-Some in
+    let room = room-there c.requires.0 c.requires.1 (before d c.requires.0 c.requires.1) (present d c.requires.0 c.requires.1) in
+    omega arith
 
 pub clean_rule-to-requires : goal.clean_rule-to-requires
 clean_rule-to-requires c =
-    let known : Cleaning c.requires.0 c.requires.1 c.loop-rule.at c.loop-rule.to c.loop-rule.rule.0 c.loop-rule.ranks c.loop-rule.present c.loop-rule.alone c.loop-rule.cleaned = c.loop-rule.invariant c.requires.0 c.requires.1 in
-    part_ready c.requires.0 c.requires.1 known c.loop-rule-test.true c.span_at-span.ensures (take (length c.loop-rule.cleaned - c.loop-rule.to) (drop c.loop-rule.to c.loop-rule.cleaned))
-    (part_long c.loop-rule.to c.loop-rule.cleaned)
+    let d = (goal.at.clean_rule-to-requires c).In-Some in
+    part_ready c.requires.0 c.requires.1 (before d c.requires.0 c.requires.1) (present d c.requires.0 c.requires.1) _ (part_long c.loop-number.to c.loop-number.cleaned)
 
 pub overflow_add-to : goal.overflow_add-to
 overflow_add-to c =
-    let known : Cleaning c.requires.0 c.requires.1 c.loop-rule.at c.loop-rule.to c.loop-rule.rule.0 c.loop-rule.ranks c.loop-rule.present c.loop-rule.alone c.loop-rule.cleaned = c.loop-rule.invariant c.requires.0 c.requires.1 in
-    let g = c.requires.0 in
-    let enough = c.requires.1 in
-    let next = rule-cleaned g enough known c.loop-rule-test.true c.span_at-span.ensures (part_long c.loop-rule.to c.loop-rule.cleaned) c.clean_rule-to.ensures in
-    omega (arith, short-body g enough next)
+    let d = (goal.at.overflow_add-to c).In-Some in
+    let next = rule-cleaned c.requires.0 c.requires.1 (before d c.requires.0 c.requires.1) (present d c.requires.0 c.requires.1) (part_long c.loop-number.to c.loop-number.cleaned) c.clean_rule-to.ensures in
+    omega (arith, short-body c.requires.0 c.requires.1 next)
 
-pub loop-rule-preserved : goal.loop-rule-preserved
-loop-rule-preserved c =
+pub loop-number-preserved : goal.loop-number-preserved
+loop-number-preserved c =
     λ g enough.
-    rule-cleaned g enough (c.loop-rule.invariant g enough) c.loop-rule-test.true c.span_at-span.ensures (part_long c.loop-rule.to c.loop-rule.cleaned) c.clean_rule-to.ensures
+    let d = (goal.at.loop-number-preserved c).In-Some in
+    rw (d.in-Some.ensures.steps.2, ← d.in-Some.ensures.steps.1)
+    (rule-cleaned g enough (before d g enough) (present d g enough) (part_long c.loop-number.to c.loop-number.cleaned) c.clean_rule-to.ensures)
 
 pub returns : goal.returns
-returns c =
-    let known : Cleaning c.requires.0 c.requires.1 c.loop-rule.at c.loop-rule.to c.loop-rule.rule.0 c.loop-rule.ranks c.loop-rule.present c.loop-rule.alone c.loop-rule.cleaned = c.loop-rule.invariant c.requires.0 c.requires.1 in
-    all-cleaned c.requires.0 c.requires.1 known c.loop-rule-test.false
+returns c = all-cleaned c.requires.0 c.requires.1 (c.loop-number.invariant c.requires.0 c.requires.1) (search rules)

@@ -3,5 +3,4 @@ use Rattle.contraction.proofs.Terminals.{closes}
 use Rattle.contraction.proofs.contract_terminal.close.Goals as goal
 
 pub returns : goal.returns
-returns c =
-    closes _ _ _ c.rule_over-rule.ensures c.add_rule-next.ensures c.add_closed.ensures
+returns c = closes _ _ c.rule_over-rule.ensures c.add_rule-number.ensures c.add_cell.ensures

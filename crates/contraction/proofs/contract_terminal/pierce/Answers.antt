@@ -3,6 +3,4 @@ use Rattle.contraction.proofs.Terminals.{pierces}
 use Rattle.contraction.proofs.contract_terminal.pierce.Goals as goal
 
 pub returns : goal.returns
-returns c =
-    let a = c.args in
-    pierces _ _ _ a.place c.rule_over-rule.ensures c.add_rule-next.ensures c.contract_chain.ensures
+returns c = pierces _ _ c.args.place c.rule_over-rule.ensures c.add_rule-context.ensures c.contract_chain.ensures

@@ -6,5 +6,5 @@ use Rattle.counting.proofs.counts.count_rule.Goals as goal
 
 pub returns : goal.returns
 returns c =
-    let (v, l, room, below) = c.requires in
-    c.write_counts.ensures ∙ ap (counts_written c.args.counts.now c.args.rule.0) (counted-rule _ _ v _ _ l below _ _ c.rule_counts-found.ensures)
+    let (l, room, below) = c.requires in
+    c.write_counts.ensures ∙ ap (counts_written c.args.counts.now c.args.rule.0) (counted-rule _ _ c.args.table.now.valid _ _ l below _ _ c.rule_counts-found.ensures)

@@ -15,15 +15,14 @@ sum_more own slot j to h k = rw (slots-back slot j to h k) (omega arith)
 pub loop-j-init : goal.loop-j-init
 loop-j-init c =
     let a = c.args in
-    (omega arith, omega arith, sym (ap (λ slots. capped (total (own_in a.counts.now) slots)) (slots-none (slot_of a.table.now a.rule.0) a.to a.to (omega arith))))
+    (omega arith, sym (ap (λ slots. capped (total (own_in a.counts.now) slots)) (slots-none (slot_of a.table.now.bytes.now a.rule.0) a.to a.to (omega arith))))
 
 pub loop-j-preserved : goal.loop-j-preserved
 loop-j-preserved c =
     let a = c.args in
-    let slot = slot_of a.table.now a.rule.0 in (
-      omega arith,
+    let slot = slot_of a.table.now.bytes.now a.rule.0 in (
       omega arith,
       c.add_capped-sum.ensures
-          ∙ rw (c.own_of.ensures, c.slot_of.ensures, c.loop-j.invariant.2)
+          ∙ rw (c.own_of.ensures, c.slot_of.ensures, c.loop-j.invariant.1)
           (sum_more (own_in a.counts.now) slot c.loop-j.j a.to (omega arith) (omega arith)),
     )

@@ -7,7 +7,4 @@ use Rattle.counting.specs.Private.Counts.{total, own_in, slots_from}
 use Rattle.counting.proofs.counts.sum_slots.Given as goal
 
 abbrev pub invariant-loop-j : goal.invariant-loop-j
-invariant-loop-j l = (l.from ≤ l.j) × (l.j ≤ l.to) × (l.sum ≡ capped (total (own_in l.counts) (slots_from (slot_of l.table l.rule.0) l.j l.to)))
-
-abbrev pub decreases-loop-j : goal.decreases-loop-j
-decreases-loop-j l = l.j
+invariant-loop-j l = (l.from ≤ l.j) × (l.sum ≡ capped (total (own_in l.counts) (slots_from (slot_of l.table.bytes.now l.rule.0) l.j l.to)))

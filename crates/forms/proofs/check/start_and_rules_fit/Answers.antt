@@ -6,7 +6,6 @@ use lib.ListN.{length}
 use Rattle.terms.specs.FormBytes.{head_length, rule_length, terminal_count}
 use Rattle.terms.proofs.Test.{of_true}
 use Rattle.terms.proofs.Form.Bytes.{HeadPassed, head_passed, table_long}
-use Rattle.slot_checks.proofs.Laws.{failed, passed}
 use Rattle.forms.proofs.check.start_and_rules_fit.Goals as goal
 
 pub table_of-table-requires : goal.table_of-table-requires
@@ -33,22 +32,8 @@ calls_lower-requires c =
     let table_holds : length c.table_of-table.result.now ≡ rule_length * c.rule_count-count.result = rw c.table_of-table.ensures (omega (arith, table_long ((c.args.form.now)) head.long, c.rule_count-count.ensures.0)) in
     omega (arith, table_holds)
 
-pub returns-then-not-calls_lower : goal.returns-then-not-calls_lower
-returns-then-not-calls_lower c =
-    rw (← c.rule_count-count.ensures.0, ← c.start_of.ensures, ← c.table_of-table.ensures, failed c.calls_lower.ensures c.if-not-calls_lower.true)
-
 pub rules_fit-requires : goal.rules_fit-requires
 rules_fit-requires c =
     let head : HeadPassed (c.args.form.now) = head_passed (c.args.form.now) (of_true _ c.requires) in
     let table_holds : length c.table_of-table.result.now ≡ rule_length * c.rule_count-count.result = rw c.table_of-table.ensures (omega (arith, table_long ((c.args.form.now)) head.long, c.rule_count-count.ensures.0)) in
     (omega (arith, table_holds), omega (arith, c.rule_count-count.ensures.0, head.few))
-
-pub returns : goal.returns
-returns c =
-    rw (
-      c.rules_fit.ensures,
-      ← c.rule_count-count.ensures.0,
-      ← c.start_of.ensures,
-      ← c.table_of-table.ensures,
-      passed c.calls_lower.ensures c.if-not-calls_lower.false,
-    )

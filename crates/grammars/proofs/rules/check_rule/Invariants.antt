@@ -6,6 +6,3 @@ use Rattle.grammars.proofs.rules.check_rule.Given as goal
 
 abbrev pub invariant-loop-left : goal.invariant-loop-left
 invariant-loop-left l = Scanned l.alphabet l.ranks l.rule.0 l.rank l.nodes l.behind l.counts l.takes l.left
-
-abbrev pub decreases-loop-left : goal.decreases-loop-left
-decreases-loop-left l = l.left

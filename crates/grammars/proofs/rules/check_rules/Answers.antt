@@ -1,58 +1,53 @@
-use mathlib.Core.Path.{◌≡◌, sym, ◌∙◌, ap}
-use mathlib.Core.Bool.{not}
-use Prim.Native.Nat.{◌+◌, ◌*◌, ◌-◌, ◌<◌, ◌≤◌}
+use mathlib.Core.Path.{refl, ◌∙◌}
+use mathlib.Core.Logic.{inl}
 use native.Mathlib.Omega.{arith}
+use borrow.Author.Rules.{rules}
 use borrow.Author.Tests.{eq-eqb, ne_eqb}
-use lib.Dec.{eqb}
-use lib.ListN.{length, get_or, take, drop}
-use Rattle.terms.specs.Refusal.{◌when◌}
-use Rattle.terms.specs.Sheet.{rules_body}
-use Rattle.terms.specs.Check.{most_rules}
-use Rattle.grammars.specs.Rules.{takes_in, rule_reading, each_refusal}
-use Rattle.grammars.proofs.Body.{span_count, inside-body, Standing, standing}
-use Rattle.grammars.proofs.EachRule.{rule_check, rule-refused, rule_checked, all_checked, all_asked}
-use Rattle.grammars.proofs.List.{length_take_most}
+use Rattle.std.proofs.lemmas.Result.{err_from_is_err_and}
+use Rattle.grammars.proofs.Turns.{Turn, turn}
+use Rattle.grammars.proofs.EachRule.{Checked, none_checked, few-left, few-nodes, rule_check, rule-refused, rule_checked, all_checked, all_asked}
 use Rattle.grammars.proofs.rules.check_rules.Goals as goal
+use Rattle.grammars.proofs.rules.check_rules.Goals.{In-Some}
 
-pub span_at-span-requires : goal.span_at-span-requires
-span_at-span-requires c =
-    let more : (c.loop-rule.rule.0 < length (rules_body c.args.body.now).rules) × (c.loop-rule.rule.0 < most_rules) = omega (arith, c.loop-rule-test.true, c.requires.0, c.requires.2) in
-    inside-body c.args.body.now c.loop-rule.at c.loop-rule.rule.0 c.loop-rule.invariant.rest more.0
+module _ (c : In-Some) where
+  -- the rules before the present one pass
+  before : Checked c.args.alphabet.now c.args.body.now c.loop-number.ranks c.loop-number.asked c.loop-number.number-iterator.iter.body.now c.in-Some.number
+  before = rw c.in-Some.ensures.steps.1 c.loop-number.invariant
 
-pub slice_bounds-check_rule-end : goal.slice_bounds-check_rule-end
-slice_bounds-check_rule-end c =
-    let more : (c.loop-rule.rule.0 < length (rules_body c.args.body.now).rules) × (c.loop-rule.rule.0 < most_rules) = omega (arith, c.loop-rule-test.true, c.requires.0, c.requires.2) in
-    let there : Standing c.args.body.now c.loop-rule.at c.loop-rule.rule.0 c.span_at-span.result = standing c.args.body.now c.loop-rule.at c.loop-rule.rule.0 c.loop-rule.invariant.rest more.0 c.span_at-span.ensures in
-    omega (arith, there.whole)
+  -- the present rule is the first of those that are left
+  present : Turn c.args.body.now c.in-Some.number c.loop-number.number-iterator.iter.body.now (record { rank = c.in-Some.rule.rank; nodes = c.in-Some.rule.nodes.now }) c.next.new.self.iter.body.now
+  present = turn before.read c.in-Some.ensures.steps.0
 
-pub returns-in-Refused : goal.returns-in-Refused
-returns-in-Refused c =
-    let more : (c.loop-rule.rule.0 < length (rules_body c.args.body.now).rules) × (c.loop-rule.rule.0 < most_rules) = omega (arith, c.loop-rule-test.true, c.requires.0, c.requires.2) in
-    let there : Standing c.args.body.now c.loop-rule.at c.loop-rule.rule.0 c.span_at-span.result = standing c.args.body.now c.loop-rule.at c.loop-rule.rule.0 c.loop-rule.invariant.rest more.0 c.span_at-span.ensures in
-    let answer : let a = c.args in c.check_rule.result ≡ rule_reading a.alphabet.now (rules_body a.body.now).rules c.loop-rule.rule.0 = (let known = more in
-    c.check_rule.ensures.answer ∙ rule_check _ _ _ _ _ _ c.loop-rule.invariant known.0 known.1 there) in
-    rule-refused _ _ _ _ _ _ c.loop-rule.invariant more.0 (sym c.in-Refused.is ∙ answer)
+pub loop-number-init : goal.loop-number-init
+loop-number-init c =
+    rw (c.into_iter-number-iterator.ensures.into_iter_gives, c.enumerate-number-items.ensures.source, c.enumerate-number-items.ensures.count) (none_checked _ _ _ refl)
 
-pub loop-rule-preserved : goal.loop-rule-preserved
-loop-rule-preserved c =
-    let more : (c.loop-rule.rule.0 < length (rules_body c.args.body.now).rules) × (c.loop-rule.rule.0 < most_rules) = omega (arith, c.loop-rule-test.true, c.requires.0, c.requires.2) in
-    let there : Standing c.args.body.now c.loop-rule.at c.loop-rule.rule.0 c.span_at-span.result = standing c.args.body.now c.loop-rule.at c.loop-rule.rule.0 c.loop-rule.invariant.rest more.0 c.span_at-span.ensures in
-    let answer : let a = c.args in c.check_rule.result ≡ rule_reading a.alphabet.now (rules_body a.body.now).rules c.loop-rule.rule.0 = (let known = more in
-    c.check_rule.ensures.answer ∙ rule_check _ _ _ _ _ _ c.loop-rule.invariant known.0 known.1 there) in
-    let few-nodes : let read = c.span_at-span.result in length (take (read.end - read.start) (drop read.start c.args.body.now)) < 256 = (let read = c.span_at-span in
-    let body = c.args.body.now in
-    let nodes = length_take_most (read.result.end - read.result.start) (drop read.result.start body) in
-    omega (arith, nodes, span_count body c.loop-rule.at read.ensures, c.shared_slice_known-2-1.given (c.loop-rule.at + 1))) in
-    let few-taken : c.in-Takes.takes ≤ 1024 * 256 = omega (arith, ap takes_in c.in-Takes.is, c.check_rule.ensures.small, few-nodes) in
-    let known = more in
-    rule_checked _ _ _ _ _ _ c.loop-rule.invariant known.0 known.1 there (sym c.in-Takes.is ∙ answer) few-taken
+pub next-requires : goal.next-requires
+next-requires c = (tt, tt, inl (omega (arith, few-left c.loop-number.invariant (omega (arith, c.requires.count)))))
+
+pub check_rule-requires : goal.check_rule-requires
+check_rule-requires c =
+    let d = (goal.at.check_rule-requires c).In-Some in
+    (omega (arith, (present d).inside, c.requires.count), few-nodes (before d) (present d) c.requires.few)
+
+pub returns-in_err-asked : goal.returns-in_err-asked
+returns-in_err-asked c =
+    let d = (goal.at.returns-in_err-asked c).In-Some in
+    let p = err_from_is_err_and c.from_residual.result c.from_residual.ensures.1 in
+    rw (p.1, p.2) (rule-refused (before d) (present d) (c.in_err-asked.ensures.answer ∙ rule_check (before d) (present d) (omega (arith, c.requires.count))))
+
+pub loop-number-preserved : goal.loop-number-preserved
+loop-number-preserved c =
+    let d = (goal.at.loop-number-preserved c).In-Some in
+    let few = few-nodes (before d) (present d) c.requires.few in
+    rw (d.in-Some.ensures.steps.2, ← d.in-Some.ensures.steps.1)
+    (rule_checked (before d) (present d) (omega (arith, c.requires.count))
+    (c.in_ok-asked.ensures.answer ∙ rule_check (before d) (present d) (omega (arith, c.requires.count))) (omega (arith, c.in_ok-asked.ensures.small)))
 
 pub returns-then-ranks-rules-ne0 : goal.returns-then-ranks-rules-ne0
-returns-then-ranks-rules-ne0 c =
-    let decided : let a = c.args in each_refusal a.alphabet.now (rules_body a.body.now).rules ≡ 13 when (not (eqb (get_or c.loop-rule.ranks (a.rules - 1) 0) 0)) = all_checked _ _ _ _ _ _ c.loop-rule.invariant c.args.rules (omega arith) (omega arith) (omega arith) in
-    rw (decided, ne_eqb _ _ c.if-ranks-rules-ne0.true)
+returns-then-ranks-rules-ne0 c = rw (all_checked c.loop-number.invariant c.requires.count.0 (omega (arith, c.requires.count)) (search rules), ne_eqb _ _ c.if-ranks-rules-ne0.true)
 
 pub returns : goal.returns
 returns c =
-    let decided : let a = c.args in each_refusal a.alphabet.now (rules_body a.body.now).rules ≡ 13 when (not (eqb (get_or c.loop-rule.ranks (a.rules - 1) 0) 0)) = all_checked _ _ _ _ _ _ c.loop-rule.invariant c.args.rules (omega arith) (omega arith) (omega arith) in
-    rw (decided, eq-eqb _ _ c.if-ranks-rules-ne0.false) (all_asked _ _ _ _ _ _ c.loop-rule.invariant c.args.rules (omega arith) (omega arith) (omega arith))
+    rw (all_checked c.loop-number.invariant c.requires.count.0 (omega (arith, c.requires.count)) (search rules), eq-eqb _ _ c.if-ranks-rules-ne0.false)
+    (all_asked c.loop-number.invariant c.requires.count.0 (omega (arith, c.requires.count)) (search rules))

@@ -4,8 +4,10 @@ use Rattle.places.specs.Position.{symbol_at, Position}
 use Rattle.labelling.proofs.label.label_in.Given as goal
 
 abbrev pub invariant-loop-terminal : goal.invariant-loop-terminal
-invariant-loop-terminal l = Position l.alphabet l.table l.counts l.at.rule.0 l.at.position
-    × (symbol_at l.alphabet l.table l.at.rule.0 l.at.position ≡ symbol_at l.alphabet l.table l.initial.at.rule.0 l.initial.at.position)
+invariant-loop-terminal l =
+    let table = l.counted.table in
+    Position table.alphabet.now table.bytes.now l.at.rule.0 l.at.position
+    × (symbol_at table.alphabet.now table.bytes.now l.at.rule.0 l.at.position ≡ symbol_at table.alphabet.now table.bytes.now l.initial.at.rule.0 l.initial.at.position)
 
 abbrev pub decreases-loop-terminal : goal.decreases-loop-terminal
 decreases-loop-terminal l = l.at.rule.0

@@ -13,4 +13,4 @@ table_part r = omega arith
 pub loop-p-preserved : goal.loop-p-preserved
 loop-p-preserved c =
     let states = rw (table_part c.args.rule.0) at c.call_in_lane.ensures in
-    (omega arith, filled_more _ c.loop-p.p _ _ (omega (arith, c.requires.3)) (call_lt _ _) states c.loop-p.invariant.1)
+    (omega arith, filled_more _ c.loop-p.p _ _ (omega (arith, c.requires.2)) (call_lt _ _) states c.loop-p.invariant.1)

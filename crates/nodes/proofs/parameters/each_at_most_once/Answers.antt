@@ -1,22 +1,13 @@
-use mathlib.Core.Path.{◌≡◌, refl, sym}
-use Prim.Native.Nat.{◌≤◌}
-use native.Mathlib.Omega.{arith}
-use borrow.Author.Tests.{le-leb, lt-leb}
-use lib.Dec.{leb}
-use lib.ListN.{get_or}
-use Rattle.terms.specs.Test.{every}
-use Rattle.terms.proofs.Scan.{every_fails, every-passes}
+-- `nodes::parameters::each_at_most_once` meets its contract: all counts pass where those at the places below the rank do.
+use Rattle.std.proofs.Common.{leb, take, ◌≡◌, ◌∙◌, arith, rules, tests}
+use Rattle.std.specs.List.{list_all}
+use Rattle.std.proofs.lemmas.Iterator.{YieldsList-from_slice}
+use Rattle.std.proofs.lemmas.Iterator.Search.{all_from_yields_List}
+use Rattle.nodes.proofs.Node.{every-element}
 use Rattle.nodes.proofs.parameters.each_at_most_once.Goals as goal
 
-pub returns-then-counts-left-gt1 : goal.returns-then-counts-left-gt1
-returns-then-counts-left-gt1 c = sym (every_fails _ _ _ c.loop-left.invariant.1 (omega arith) (lt-leb _ _ c.if-counts-left-gt1.true))
-
-pub loop-left-preserved : goal.loop-left-preserved
-loop-left-preserved c =
-    (omega arith, every-passes _ _ _ c.loop-left.invariant.1 (omega arith) (le-leb _ _ c.if-counts-left-gt1.false))
-
 pub returns : goal.returns
-unfolding every
 returns c =
-    let e : c.loop-left.left ≡ 0 = omega arith in
-    sym (rw e at c.loop-left.invariant.1)
+    let ranked = take c.args.rank c.args.counts.now in
+    let by_call : c.all.result ≡ list_all (λ n. leb n 1) ranked = all_from_yields_List (λ n. leb n 1) _ _ _ c.all.ensures.ran (YieldsList-from_slice ranked cc) (λ x b q k. search (rules, tests)) in
+    by_call ∙ every-element (λ n. leb n 1) _ _ 0 (omega arith)

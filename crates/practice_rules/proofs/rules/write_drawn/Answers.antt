@@ -2,14 +2,15 @@
 use Rattle.practice_rules.proofs.Drawing.{even_drawn, odd_drawn}
 use Rattle.practice_rules.proofs.rules.write_drawn.Goals as goal
 
-pub returns-then-draw-eq0 : goal.returns-then-draw-eq0
-returns-then-draw-eq0 c =
-    let given = c.args in
-    even_drawn given.x given.i given.at c.next-for_kind.ensures c.next-for_j.ensures c.call-j.ensures _ given.rules.now
-    (rw (← c.draw.ensures) c.if-draw-eq0.true) c.next-for_k.ensures c.call.ensures c.copy_at.ensures
+pub returns-then-even : goal.returns-then-even
+returns-then-even c =
+    let kind = c.draw.ensures in
+    let second = c.draw-2.ensures in
+    let third = c.draw-then-even.ensures in
+    even_drawn kind.number kind.draw second.number second.draw c.call-j.ensures c.if-even.true third.number third.draw c.call-k.ensures c.copy_at.ensures
 
 pub returns : goal.returns
 returns c =
-    let given = c.args in
-    odd_drawn given.x given.i given.at c.next-for_kind.ensures c.next-for_j.ensures c.call-j.ensures _ given.rules.now
-    (λ e. c.if-draw-eq0.false (rw c.draw.ensures e)) c.copy_at-2.ensures
+    let kind = c.draw.ensures in
+    let second = c.draw-2.ensures in
+    odd_drawn kind.number kind.draw second.number second.draw c.call-j.ensures c.if-even.false c.copy_at-2.ensures

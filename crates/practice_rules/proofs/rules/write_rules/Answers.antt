@@ -1,34 +1,36 @@
-use Rattle.std.proofs.Common.{◌≡◌, suc, ◌+◌, ◌-◌, ◌*◌, ◌≤◌, arith}
-use Rattle.practice_rules.proofs.Written.{written-most}
-use Rattle.practice_rules.proofs.Reached.{reached_first, reached_more, reached_last}
+use Rattle.std.proofs.Common.{◌≡◌, ◌+◌, ◌-◌, arith}
+use Rattle.practice_rules.proofs.Reached.{Done, done_most, reached_first, reached_more, done_last}
+use Rattle.practice_rules.proofs.rules.write_rules.Goals.{else-loop-i-test, then-loop-i-test+else-i-m}
 use Rattle.practice_rules.proofs.rules.write_rules.Goals as goal
 
 pub loop-i-init : goal.loop-i-init
-loop-i-init c = (omega arith, omega arith, omega arith, reached_first c.args.first _ c.args.rules.now c.copy_at.ensures)
+loop-i-init c = record { in_range = omega arith; reached = reached_first c.args.first _ c.args.rules.now c.copy_at.ensures }
 
-pub write_drawn-progress-requires : goal.write_drawn-progress-requires
-write_drawn-progress-requires c =
-    let reaches : c.loop-i.progress.end ≤ 4 + 6 * (c.loop-i.i - 1) = omega (arith, c.loop-i.invariant.3.end, written-most (c.loop-i.i - 1) c.args.first) in
-    (omega arith, omega arith, omega (arith, reaches))
+pub write_drawn-end-requires : goal.write_drawn-end-requires
+write_drawn-end-requires c = (omega arith, omega arith, omega (arith, done_most c.loop-i.invariant.reached.done))
 
 pub loop-i-preserved : goal.loop-i-preserved
 loop-i-preserved c =
-    let reaches : c.loop-i.progress.end ≤ 4 + 6 * (c.loop-i.i - 1) = omega (arith, c.loop-i.invariant.3.end, written-most (c.loop-i.i - 1) c.args.first) in
-    let i = c.loop-i.i in
-    let below : suc (i - 1) ≡ i = omega arith in
-    let more : suc (i - 1) ≡ i + 1 - 1 = omega arith in
-    let x = c.args.first in
-    let d = rw (← below) at c.write_drawn-progress.ensures in
-    (omega arith, omega arith, omega arith, rw more at (reached_more x (i - 1) c.loop-i.invariant.3 (omega (arith, reaches)) d))
+    let same : c.loop-i.i + 1 - 1 ≡ c.loop-i.i = omega arith in
+    let reached = c.loop-i.invariant.reached in
+    record { in_range = omega arith; reached = rw same (reached_more c.args.first c.loop-i.i (omega arith) reached (omega (arith, done_most reached.done)) c.write_drawn-end.ensures) }
 
 pub copy_at-requires-2 : goal.copy_at-requires-2
 copy_at-requires-2 c =
-    let reaches : c.loop-i.progress.end ≤ 4 + 6 * (c.loop-i.i - 1) = omega (arith, c.loop-i.invariant.3.end, written-most (c.loop-i.i - 1) c.args.first) in
-    omega (arith, reaches)
+    let reached = c.loop-i.invariant.reached in
+    elim c.loop-i-test.branch [
+      | else-loop-i-test w ↦ omega (arith, done_most reached.done, w.end-is)
+      | then-loop-i-test+else-i-m w ↦ omega (arith, done_most (reached_more c.args.first c.loop-i.i (omega arith) reached (omega (arith, done_most reached.done)) w.write_drawn-end.ensures).done, w.end-is)
+    ]
 
 pub returns : goal.returns
 returns c =
-    let reaches : c.loop-i.progress.end ≤ 4 + 6 * (c.loop-i.i - 1) = omega (arith, c.loop-i.invariant.3.end, written-most (c.loop-i.i - 1) c.args.first) in
+    let reached = c.loop-i.invariant.reached in
     let m = c.args.m in
-    let all : c.loop-i.i - 1 ≡ m = omega arith in
-    reached_last c.args.first m (rw all at c.loop-i.invariant.3) (omega (arith, reaches)) c.copy_at-2.ensures
+    let done : Done c.args.first m c.loop-i-test.end c.loop-i-test.rules = elim c.loop-i-test.branch [
+      | else-loop-i-test w ↦ let all : c.loop-i.i - 1 ≡ m = omega arith in rw (w.end-is, w.rules-is) (rw all at reached.done)
+      | then-loop-i-test+else-i-m w ↦
+          let all : c.loop-i.i ≡ m = omega arith in
+          rw (w.end-is, w.rules-is) (rw all at (reached_more c.args.first c.loop-i.i (omega arith) reached (omega (arith, done_most reached.done)) w.write_drawn-end.ensures).done)
+    ] in
+    done_last c.args.first m done (omega (arith, done_most done)) c.copy_at-2.ensures

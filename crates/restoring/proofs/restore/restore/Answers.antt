@@ -3,7 +3,7 @@ use mathlib.Core.Path.{ap, ◌∙◌}
 use mathlib.Core.List.{List}
 use Prim.Native.Nat.{ℕ}
 use lib.ListN.{length}
-use Rattle.terms.specs.Answer.{answer_of_length}
+use Rattle.terms.specs.Answer.{answer_of}
 use Rattle.terms.specs.Sheet.{wrapped}
 use Rattle.terms.proofs.Sheet.Wrap.{Wrapped, wrap_right}
 use Rattle.restoring.specs.Restore.{RestoringCalls}
@@ -19,7 +19,7 @@ returns c =
     let given = c.args in
     let told = c.unfold_written.ensures in
     let calls : RestoringCalls _ _ _ _ _ _ = record {
-      answers = ap answer_of_length told.written_value ∙ c.wrap-written.ensures.result_value;
+      answers = ap answer_of told.written_value ∙ c.wrap-written.ensures.result_value;
       writes = c.wrap-written.ensures.sheet_after;
       makes = told.made_from;
       unfolds = told.unfolded_from;

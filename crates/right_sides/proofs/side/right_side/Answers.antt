@@ -1,44 +1,29 @@
-use mathlib.Core.Path.{◌≡◌, refl}
-use Prim.Native.Nat.{◌+◌, ◌-◌, ◌≤◌}
-use native.Mathlib.Omega.{arith}
-use lib.ListN.{length}
-use Rattle.terms.specs.Check.{most_nodes}
-use Rattle.right_sides.proofs.Scanning.{scan-none, node-ranked, node-low, low_enough, rank-read, ready_as, scan_more_as, scan-all, whole_part}
+use Rattle.std.proofs.Common.{◌-◌, refl, arith}
+use Rattle.right_sides.proofs.Scanning.{scan-none, node-ranked, children-fit, ready_as, scan_more_as, scan-all}
 use Rattle.right_sides.proofs.side.right_side.Goals as goal
 
-pub loop-left-init : goal.loop-left-init
-loop-left-init c = λ g. scan-none g _ _ _ refl refl refl
+pub loop-i-init : goal.loop-i-init
+loop-i-init c = λ g. scan-none g _ _ _ refl refl refl
 
-pub name_rank-rank-requires : goal.name_rank-rank-requires
-name_rank-rank-requires c =
+pub name_rank-requires : goal.name_rank-requires
+name_rank-requires c =
     let g = c.requires in
-    rw c.name_of-name.ensures (node-ranked g (c.loop-left.left - 1) (omega arith) (c.loop-left.invariant g))
+    rw c.name_of-name.ensures (node-ranked g (c.loop-i.i - 1) (omega arith) (c.loop-i.invariant g))
+
+pub slice_bounds-children-end : goal.slice_bounds-children-end
+slice_bounds-children-end c =
+    let g = c.requires in
+    children-fit g (c.loop-i.i - 1) (omega arith) (c.loop-i.invariant g) c.name_of-name.ensures c.name_rank.ensures
 
 pub node-made-requires : goal.node-made-requires
 node-made-requires c =
     let g = c.requires in
-    let s = c.loop-left.invariant g in (
-      g.known.rooted,
-      ready_as g (c.loop-left.left - 1) (omega arith) s c.name_of-name.ensures c.name_rank-rank.ensures _
-          (whole_part c.loop-left.stack c.loop-left.low s.long),
-    )
+    ready_as g (c.loop-i.i - 1) (omega arith) (c.loop-i.invariant g) c.name_of-name.ensures c.name_rank.ensures _ refl
 
-pub bounds-stack-low : goal.bounds-stack-low
-bounds-stack-low c =
-    let stacked : (length c.loop-left.stack ≡ most_nodes) × (c.loop-left.low ≤ most_nodes) = (let s = c.loop-left.invariant c.requires in omega (arith, s.long, s.depth)) in
-    let room : let low = c.loop-left.low in (c.name_rank-rank.result ≤ 4) × (1 ≤ low) × (low + c.name_rank-rank.result ≤ most_nodes) = (let g = c.requires in
-    let left = c.loop-left.left - 1 in
-    let s = c.loop-left.invariant g in
-    omega
-    (arith, rank-read g left (omega arith) s c.name_of-name.ensures c.name_rank-rank.ensures, node-low g left (omega arith) s, low_enough g left (omega arith) s)) in
-    omega (arith, room, stacked)
-
-pub loop-left-preserved : goal.loop-left-preserved
-loop-left-preserved c = λ g.
-    (let s = c.loop-left.invariant g in
-    scan_more_as g (c.loop-left.left - 1) (omega arith) s c.name_of-name.ensures c.name_rank-rank.ensures _
-    (whole_part c.loop-left.stack c.loop-left.low s.long) _ _ c.node-made.result c.node-made.ensures _ refl)
+pub loop-i-preserved : goal.loop-i-preserved
+loop-i-preserved c = λ g.
+    (scan_more_as g (c.loop-i.i - 1) (omega arith) (c.loop-i.invariant g) c.name_of-name.ensures c.name_rank.ensures _ refl _ _ c.node-made.ensures _ refl)
 
 pub returns : goal.returns
 returns c =
-    record { grown = λ g. (scan-all g (omega arith) (c.loop-left.invariant g)).1; stood = λ g. (scan-all g (omega arith) (c.loop-left.invariant g)).2 }
+    record { grown = λ g. (scan-all g (omega arith) (c.loop-i.invariant g)).1; stood = λ g. (scan-all g (omega arith) (c.loop-i.invariant g)).2 }

@@ -1,10 +1,6 @@
--- `rule_parameters::numbers::note_present` meets its contract. The loop goes down from the last parameter. Its invariant: the flags of the parameters that were
--- passed are noted, and those outside of the rule's are kept. The measure is the number of parameters that are left.
-use Rattle.rule_parameters.proofs.Parameters.{NotedFrom}
+-- `rule_parameters::numbers::note_present` meets its contract. The invariant: the flags of the parameters that were passed are noted, and other flags are kept.
+use Rattle.rule_parameters.specs.Numbers.{PresentNoted}
 use Rattle.rule_parameters.proofs.numbers.note_present.Given as goal
 
-abbrev pub invariant-loop-left : goal.invariant-loop-left
-invariant-loop-left l = NotedFrom l.nodes l.rank l.first l.left l.initial.present l.present
-
-abbrev pub decreases-loop-left : goal.decreases-loop-left
-decreases-loop-left l = l.left
+abbrev pub invariant-loop-parameter : goal.invariant-loop-parameter
+invariant-loop-parameter l = PresentNoted l.nodes l.parameter l.first l.initial.present l.present

@@ -1,36 +1,43 @@
-use native.Mathlib.Omega.{arith}
-use Rattle.terms.proofs.Sheet.Automaton.{AutomatonPassed, automaton_passed}
-use Rattle.grammars.proofs.Body.{Standing}
-use Rattle.rule_tables.proofs.Tabling.{Tabling, in_body, in_span, table_ready, tabling_more, tabling_all}
+use mathlib.Core.Logic.{inl}
+use Rattle.std.proofs.Common.{refl, arith, rules}
+use Rattle.grammars.proofs.Turns.{Turn, turn}
+use Rattle.rule_tables.specs.Rules.{RulesReady}
+use Rattle.rule_tables.proofs.Tabling.{Tabling, tabling_none, few-left, number-few, table_ready, tabling_more, tabling_all}
 use Rattle.rule_tables.proofs.rules.write_tables.Goals as goal
+use Rattle.rule_tables.proofs.rules.write_tables.Goals.{In-Some}
 
-pub link_transitions-links-requires : goal.link_transitions-links-requires
-link_transitions-links-requires c =
-    let passed : AutomatonPassed c.args.alphabet.now c.args.automaton.now = automaton_passed c.args.alphabet.now c.args.automaton.now c.requires.automaton_passes in
-    let p = passed in (omega (arith, p.long), p.few)
+module _ (c : In-Some) (g : RulesReady c.args.alphabet.now c.args.automaton.now c.args.body.now c.args.tables.now) where
+  -- the rules before the present one have their tables
+  before : Tabling g c.loop-number.number-iterator.iter.body.now c.in-Some.number c.loop-number.tables
+  before = rw c.in-Some.ensures.steps.1 (c.loop-number.invariant g)
 
-pub span_at-span-requires : goal.span_at-span-requires
-span_at-span-requires c =
-    let known : Tabling c.requires c.loop-rule.at c.loop-rule.rule.0 c.loop-rule.tables = c.loop-rule.invariant c.requires in
-    in_body c.requires known c.loop-rule-test.true
+  -- the present rule is the first of those that are left
+  present : Turn c.args.body.now c.in-Some.number c.loop-number.number-iterator.iter.body.now (record { rank = c.in-Some.rule.rank; nodes = c.in-Some.rule.nodes.now }) c.next.new.self.iter.body.now
+  present = turn before.read c.in-Some.ensures.steps.0
 
-pub slice_bounds-write_table-end : goal.slice_bounds-write_table-end
-slice_bounds-write_table-end c =
-    let known : Tabling c.requires c.loop-rule.at c.loop-rule.rule.0 c.loop-rule.tables = c.loop-rule.invariant c.requires in
-    let there : Standing c.args.body.now c.loop-rule.at c.loop-rule.rule.0 c.span_at-span.result = in_span c.requires known c.loop-rule-test.true c.span_at-span.ensures in
-    omega (arith, there.whole)
+pub loop-number-init : goal.loop-number-init
+loop-number-init c =
+    λ g. rw (c.into_iter-number-iterator.ensures.into_iter_gives, c.enumerate-number-items.ensures.source, c.enumerate-number-items.ensures.count) (tabling_none g refl)
+
+pub next-requires : goal.next-requires
+next-requires c = (tt, tt, inl (omega (arith, few-left c.requires (c.loop-number.invariant c.requires))))
+
+pub overflow_cast-number : goal.overflow_cast-number
+overflow_cast-number c =
+    let d = (goal.at.overflow_cast-number c).In-Some in
+    omega (arith, number-few c.requires (before d c.requires) (present d c.requires))
 
 pub write_table-requires : goal.write_table-requires
 write_table-requires c =
-    let known : Tabling c.requires c.loop-rule.at c.loop-rule.rule.0 c.loop-rule.tables = c.loop-rule.invariant c.requires in
-    table_ready c.requires known c.loop-rule-test.true c.span_at-span.ensures c.clean_noting.ensures.noted c.link_transitions-links.ensures c.spread_table-spread.ensures
+    let d = (goal.at.write_table-requires c).In-Some in
+    rw (c.new-linked.ensures.alphabet, c.new-linked.ensures.automaton)
+    (table_ready c.requires (before d c.requires) (present d c.requires) c.clean_noting.ensures.noted)
 
-pub loop-rule-preserved : goal.loop-rule-preserved
-loop-rule-preserved c = λ g.
-    (tabling_more g (c.loop-rule.invariant g) c.loop-rule-test.true c.span_at-span.ensures c.clean_noting.ensures.noted c.link_transitions-links.ensures
-    c.spread_table-spread.ensures _ c.write_table.ensures)
+pub loop-number-preserved : goal.loop-number-preserved
+loop-number-preserved c = λ g.
+    let d = (goal.at.loop-number-preserved c).In-Some in
+    let written = rw (c.new-linked.ensures.alphabet, c.new-linked.ensures.automaton) at c.write_table.ensures in
+    rw (d.in-Some.ensures.steps.2, ← d.in-Some.ensures.steps.1) (tabling_more g (before d g) (present d g) c.clean_noting.ensures.noted _ written)
 
 pub returns : goal.returns
-returns c =
-    let known : Tabling c.requires c.loop-rule.at c.loop-rule.rule.0 c.loop-rule.tables = c.loop-rule.invariant c.requires in
-    tabling_all c.requires known c.loop-rule-test.false
+returns c = tabling_all c.requires (c.loop-number.invariant c.requires) (search rules)

@@ -1,5 +1,5 @@
 -- `side_relations::side::node` meets its contract: a terminal steps, a call reads the table of its rule, and a parameter has its states.
-use mathlib.Core.Path.{◌≡◌, ◌∙◌, ap, subst}
+use mathlib.Core.Path.{◌∙◌, ap}
 use mathlib.Core.List.{List}
 use Prim.Native.Nat.{ℕ}
 use native.Mathlib.Omega.{arith}
@@ -8,37 +8,29 @@ use lib.Seq.{take_all}
 use Rattle.terms.specs.Grammar.{terminal_rank}
 use Rattle.terms.specs.Automaton.{step}
 use Rattle.terms.specs.Sheet.{transitions_of}
-use Rattle.nodes.specs.declared.name.Name.{Name}
-use Rattle.nodes.specs.Nodes.{naming}
 use Rattle.blackboard_terms.specs.Step.{lane, lanes_at}
-use Rattle.side_relations.specs.Side.{NodeReady}
 use Rattle.side_relations.proofs.side.node.Goals as goal
 
 pub step_lanes-requires : goal.step_lanes-requires
 step_lanes-requires c =
-    let ready : (x : Name) → c.args.name ≡ x → NodeReady c.args.alphabet.now c.args.automaton.now c.args.links.now c.args.spread.now c.args.tables.now c.args.children.now c.args.lanes (naming x) = λ x e. subst (λ (y : Name). NodeReady c.args.alphabet.now c.args.automaton.now c.args.links.now c.args.spread.now c.args.tables.now c.args.children.now c.args.lanes (naming y)) e c.requires in
-    let r = ready _ c.in-Terminal.is in
+    let r = rw c.in-Terminal.is at c.requires in
     (r.0, omega (arith, r.1))
 
 pub call_lanes-requires : goal.call_lanes-requires
-call_lanes-requires c =
-    let ready : (x : Name) → c.args.name ≡ x → NodeReady c.args.alphabet.now c.args.automaton.now c.args.links.now c.args.spread.now c.args.tables.now c.args.children.now c.args.lanes (naming x) = λ x e. subst (λ (y : Name). NodeReady c.args.alphabet.now c.args.automaton.now c.args.links.now c.args.spread.now c.args.tables.now c.args.children.now c.args.lanes (naming y)) e c.requires in
-    ready _ c.in-Nonterminal.is
+call_lanes-requires c = rw c.in-Nonterminal.is at c.requires
 
 pub parameter_relation-requires : goal.parameter_relation-requires
-parameter_relation-requires c =
-    let ready : (x : Name) → c.args.name ≡ x → NodeReady c.args.alphabet.now c.args.automaton.now c.args.links.now c.args.spread.now c.args.tables.now c.args.children.now c.args.lanes (naming x) = λ x e. subst (λ (y : Name). NodeReady c.args.alphabet.now c.args.automaton.now c.args.links.now c.args.spread.now c.args.tables.now c.args.children.now c.args.lanes (naming y)) e c.requires in
-    (ready _ c.in-Parameter.is).0
+parameter_relation-requires c = (rw c.in-Parameter.is at c.requires).0
 
 pub returns-in-Terminal : goal.returns-in-Terminal
 returns-in-Terminal c p h =
-    let ready : (x : Name) → c.args.name ≡ x → NodeReady c.args.alphabet.now c.args.automaton.now c.args.links.now c.args.spread.now c.args.tables.now c.args.children.now c.args.lanes (naming x) = λ x e. subst (λ (y : Name). NodeReady c.args.alphabet.now c.args.automaton.now c.args.links.now c.args.spread.now c.args.tables.now c.args.children.now c.args.lanes (naming y)) e c.requires in
+    let l = c.args.linked.now in
     let f = c.in-Terminal.f.0 in
-    let r = ready _ c.in-Terminal.is in
+    let r = rw c.in-Terminal.is at c.requires in
     rw c.in-Terminal.is
     (c.step_lanes.ensures p (omega (arith, r.2))
-    ∙ ap (λ (xs : List ℕ). step (transitions_of c.args.alphabet.now c.args.automaton.now) f (lanes_at p xs))
-    (take_all (terminal_rank c.args.alphabet.now f) c.args.children.now (omega (arith, r.1))))
+    ∙ ap (λ (xs : List ℕ). step (transitions_of l.alphabet.now l.automaton.now) f (lanes_at p xs))
+    (take_all (terminal_rank l.alphabet.now f) c.args.children.now (omega (arith, r.1))))
 
 pub returns-in-Nonterminal : goal.returns-in-Nonterminal
 returns-in-Nonterminal c p h =
@@ -46,11 +38,8 @@ returns-in-Nonterminal c p h =
 
 pub returns-in-Parameter : goal.returns-in-Parameter
 returns-in-Parameter c p h =
-    let ready : (x : Name) → c.args.name ≡ x → NodeReady c.args.alphabet.now c.args.automaton.now c.args.links.now c.args.spread.now c.args.tables.now c.args.children.now c.args.lanes (naming x) = λ x e. subst (λ (y : Name). NodeReady c.args.alphabet.now c.args.automaton.now c.args.links.now c.args.spread.now c.args.tables.now c.args.children.now c.args.lanes (naming y)) e c.requires in
-    let r = ready _ c.in-Parameter.is in
+    let r = rw c.in-Parameter.is at c.requires in
     rw c.in-Parameter.is (c.parameter_relation.ensures p (omega (arith, r.1)))
 
 pub returns-in-Nothing : goal.returns-in-Nothing
-returns-in-Nothing c p h =
-    let ready : (x : Name) → c.args.name ≡ x → NodeReady c.args.alphabet.now c.args.automaton.now c.args.links.now c.args.spread.now c.args.tables.now c.args.children.now c.args.lanes (naming x) = λ x e. subst (λ (y : Name). NodeReady c.args.alphabet.now c.args.automaton.now c.args.links.now c.args.spread.now c.args.tables.now c.args.children.now c.args.lanes (naming y)) e c.requires in
-    absurd (ready _ c.in-Nothing.is)
+returns-in-Nothing c p h = absurd (rw c.in-Nothing.is at c.requires)

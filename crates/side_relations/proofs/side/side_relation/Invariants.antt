@@ -4,7 +4,5 @@ use Rattle.side_relations.proofs.Scanning.{Scanning}
 use Rattle.side_relations.proofs.side.side_relation.Given as goal
 
 abbrev pub invariant-loop-left : goal.invariant-loop-left
-invariant-loop-left l = (g : SideReady l.alphabet l.automaton l.links l.spread l.tables l.ranks l.present l.nodes l.choice l.lanes) → Scanning g l.left l.low l.stack
-
-abbrev pub decreases-loop-left : goal.decreases-loop-left
-decreases-loop-left l = l.left
+invariant-loop-left l =
+    (g : SideReady l.linked.alphabet.now l.linked.automaton.now l.lower.tables.now l.lower.ranks.now l.lower.present.now l.nodes l.choice l.lanes) → Scanning g l.left l.low l.stack

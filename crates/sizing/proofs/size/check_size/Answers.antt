@@ -1,24 +1,19 @@
 -- `sizing::size::check_size` meets its contract: the rows come in the order of the definition.
-use mathlib.Core.Path.{sym, ◌∙◌}
-use Rattle.forms.proofs.Rules.{head-long}
-use Rattle.sizing.proofs.Answers.{opening_refused, numbers-lacking, numbers_enough}
-use Rattle.forms.proofs.Rules.{opening_passed}
+use native.Mathlib.Omega.{arith}
+use borrow.Author.Tests.{lt-ltb, le-ltb}
+use Prim.Native.Nat.{◌*◌}
+use Rattle.terms.specs.FormBytes.{rule_count}
+use Rattle.terms.specs.Calls.{counts_per_rule, size_refusal}
+use Rattle.terms.proofs.InTurn.{went_on}
+use Rattle.counting.proofs.Start.{opened-rules}
 use Rattle.sizing.proofs.size.check_size.Goals as goal
 
-pub returns-then-refusal-ne0 : goal.returns-then-refusal-ne0
-returns-then-refusal-ne0 c =
-    let e = c.check_opening-refusal.ensures in
-    e ∙ sym (opening_refused _ _ _ (λ z. c.if-refusal-ne0.true (e ∙ z)))
+pub returns-then-numbers-count-clause-refusal : goal.returns-then-numbers-count-clause-refusal
+unfolding size_refusal
+returns-then-numbers-count-clause-refusal c =
+    rw (went_on _ _ c.in_ok-opened.ensures.refusal, lt-ltb c.args.numbers (counts_per_rule * rule_count c.args.form.now) (omega (arith, c.if-numbers-count.true, c.count.ensures, opened-rules c.in_ok-opened.ensures.parts)))
 
-pub rule_count-requires : goal.rule_count-requires
-rule_count-requires c =
-    let (a, f) = opening_passed _ _ (sym c.check_opening-refusal.ensures ∙ c.if-refusal-ne0.false) in
-    head-long _ _ a f
-
-pub returns-then-numbers-rule_count : goal.returns-then-numbers-rule_count
-returns-then-numbers-rule_count c =
-    sym (numbers-lacking _ _ _ (sym c.check_opening-refusal.ensures ∙ c.if-refusal-ne0.false) (rw c.rule_count.ensures.0 at c.if-numbers-rule_count.true))
-
-pub returns : goal.returns
-returns c =
-    sym (numbers_enough _ _ _ (sym c.check_opening-refusal.ensures ∙ c.if-refusal-ne0.false) (rw c.rule_count.ensures.0 at c.if-numbers-rule_count.false))
+pub returns-clause-refusal : goal.returns-clause-refusal
+unfolding size_refusal
+returns-clause-refusal c =
+    rw (went_on _ _ c.in_ok-opened.ensures.refusal, le-ltb c.args.numbers (counts_per_rule * rule_count c.args.form.now) (omega (arith, c.if-numbers-count.false, c.count.ensures, opened-rules c.in_ok-opened.ensures.parts)))

@@ -1,6 +1,6 @@
 -- The measures of the two functions, and the loop's invariant. A node has at most 4 children, so 5 times the remaining bytes falls from a node to its children,
 -- with one more for each child that `read_children` reads as a node.
-use Rattle.std.proofs.Common.{◌-◌, ◌≡◌, ◌≤◌, length, take, ◌+◌, ◌*◌}
+use Rattle.std.proofs.Common.{◌-◌, ◌≡◌, length, take, ◌+◌, ◌*◌}
 use Rattle.subtree_masks.specs.Readers.{Noted, end_of, masks_from}
 use Rattle.subtree_masks.proofs.read.+read_children_read_node.Given as goal
 
@@ -15,11 +15,7 @@ abbrev pub invariant-read_children-loop-j : goal.invariant-read_children-loop-j
 invariant-read_children-loop-j l = record {
   kept : length l.masks ≡ length l.initial.masks;
   room : length l.sets ≡ 4;
-  most : l.j ≤ l.children;
-  ends : l.end ≡ end_of l.alphabet.now l.tree.now l.at l.j;
-  noted : Noted l.alphabet.now l.automaton.now l.tree.now l.at l.end l.initial.masks l.masks;
-  read : take l.j l.sets ≡ masks_from l.alphabet.now l.automaton.now l.tree.now l.at l.j;
+  ends : l.end ≡ end_of l.linked.alphabet.now l.tree.now l.at l.j;
+  noted : Noted l.linked.alphabet.now l.linked.automaton.now l.tree.now l.at l.end l.initial.masks l.masks;
+  read : take l.j l.sets ≡ masks_from l.linked.alphabet.now l.linked.automaton.now l.tree.now l.at l.j;
 }
-
-abbrev pub decreases-read_children-loop-j : goal.decreases-read_children-loop-j
-decreases-read_children-loop-j l = l.children - l.j

@@ -1,50 +1,49 @@
-use mathlib.Core.Path.{◌≡◌, ap, sym, ◌∙◌}
+use mathlib.Core.Path.{◌≡◌, refl, ap, sym, ◌∙◌}
 use mathlib.Core.Bool.{true, false, ◌&&◌}
-use mathlib.Core.List.{List}
-use Prim.Native.Nat.{ℕ, ◌+◌, ◌/◌, ◌%◌, ◌^◌, ◌<◌}
-use native.Mathlib.Numerals.{add-one}
+use mathlib.Core.List.{List, [], ◌∷◌}
+use Prim.Native.Nat.{ℕ, suc, ◌/◌, ◌%◌, ◌^◌}
 use native.Mathlib.Omega.{arith}
+use mathlib.Core.Logic.{inl, inr}
+use borrow.Author.Rules.{rules}
 use lib.Dec.{eqb}
-use lib.ListN.{length, get_or, drop}
-use lib.Seq.{drop-cons, drop-length}
+use lib.ListN.{length}
 use Rattle.terms.specs.Automaton.{bit, has, all_in}
 use Rattle.transitions.proofs.step.all_in.Goals as goal
 
-module _ (sets states : List ℕ) (same : length sets ≡ length states) where
-  one_more : (j : ℕ) → j < length sets → all_in (drop j sets) (drop j states) ≡ has (get_or sets j 0) (get_or states j 0) && all_in (drop (j + 1) sets) (drop (j + 1) states)
-  unfolding all_in
-  one_more j h =
-      let h' : j < length states = omega arith in
-      rw (add-one, drop-cons sets j 0 h, drop-cons states j 0 h')
+stops : (x q : ℕ) (xs qs : List ℕ) → x / 2 ^ q % 2 ≡ 0 → all_in (x ∷ xs) (q ∷ qs) ≡ false
+unfolding all_in has bit
+stops x q xs qs e = ap (λ (b : ℕ). eqb b 1 && all_in xs qs) e
 
-  stops : (j : ℕ) → j < length sets → bit (get_or sets j 0) (get_or states j 0) ≡ 0 → all_in (drop j sets) (drop j states) ≡ false
-  unfolding has
-  stops j h e = one_more j h ∙ ap (λ (b : ℕ). eqb b 1 && all_in (drop (j + 1) sets) (drop (j + 1) states)) e
+goes_on : (x q : ℕ) (xs qs : List ℕ) → (x / 2 ^ q % 2 ≡ 0 → ⊥) → all_in (x ∷ xs) (q ∷ qs) ≡ all_in xs qs
+unfolding all_in has bit
+goes_on x q xs qs n =
+    let e : x / 2 ^ q % 2 ≡ 1 = omega arith in
+    ap (λ (b : ℕ). eqb b 1 && all_in xs qs) e
 
-  goes_on : (j : ℕ) → j < length sets → (bit (get_or sets j 0) (get_or states j 0) ≡ 0 → ⊥)
-      → all_in (drop j sets) (drop j states) ≡ all_in (drop (j + 1) sets) (drop (j + 1) states)
-  unfolding has bit
-  goes_on j h n =
-      let e : get_or sets j 0 / 2 ^ get_or states j 0 % 2 ≡ 1 = omega arith in
-      one_more j h ∙ ap (λ (b : ℕ). eqb b 1 && all_in (drop (j + 1) sets) (drop (j + 1) states)) e
+none_left : (xs qs : List ℕ) → length xs ≡ length qs → length xs ≡ 0 → all_in xs qs ≡ true
+unfolding all_in
+none_left [] [] s e = refl
+none_left [] (q ∷ qs) s e = absurd (omega arith)
+none_left (x ∷ xs) qs s e = absurd (omega arith)
 
-  none_left : (j : ℕ) → j ≡ length sets → all_in (drop j sets) (drop j states) ≡ true
-  unfolding all_in
-  none_left j e =
-      let e' : j ≡ length states = omega arith in
-      ap (λ (n : ℕ). all_in (drop n sets) (drop j states)) e ∙ ap (λ (n : ℕ). all_in (drop (length sets) sets) (drop n states)) e'
-      ∙ rw (drop-length sets, drop-length states)
+pub returns-then-set-state-eq0 : goal.returns-then-set-state-eq0
+returns-then-set-state-eq0 c =
+    let (a, b) = c.in-Some.ensures.steps in
+    sym (rw (a, b) at c.loop-set.invariant.asked ∙ stops _ _ _ _ c.if-set-state-eq0.true)
 
-pub returns-then-sets-j-eq0 : goal.returns-then-sets-j-eq0
-unfolding bit
-returns-then-sets-j-eq0 c =
-    sym (c.loop-j.invariant.1 ∙ stops c.args.sets.now c.args.states.now c.requires.0 c.loop-j.j (omega arith) c.if-sets-j-eq0.true)
-
-pub loop-j-preserved : goal.loop-j-preserved
-unfolding bit
-loop-j-preserved c =
-    (omega arith, c.loop-j.invariant.1 ∙ goes_on c.args.sets.now c.args.states.now c.requires.0 c.loop-j.j (omega arith) c.if-sets-j-eq0.false)
+pub loop-set-preserved : goal.loop-set-preserved
+loop-set-preserved c =
+    let i = c.loop-set.invariant in
+    let (a, b) = c.in-Some.ensures.steps in
+    record {
+      can_next = search rules;
+      ends = search rules;
+      same = omega (arith, ap length a, ap length b, i.same);
+      small = λ j. rw b at (i.small (suc j));
+      asked = rw (a, b) at i.asked ∙ goes_on _ _ _ _ c.if-set-state-eq0.false;
+    }
 
 pub returns : goal.returns
 returns c =
-    sym (c.loop-j.invariant.1 ∙ none_left c.args.sets.now c.args.states.now c.requires.0 c.loop-j.j (omega arith))
+    let i = c.loop-set.invariant in
+    sym (i.asked ∙ none_left _ _ i.same (elim c.in-None.ensures.steps [ inl left ↦ left.1.0 | inr right ↦ i.same ∙ right.1.0 ]))

@@ -7,36 +7,39 @@ use lib.ListN.{length, take, set, length-set}
 use lib.Seq.{take-set-lt}
 use Rattle.terms.specs.Grammar.{terminal_rank}
 use Rattle.transitions.specs.Step.{pairs_of}
-use Rattle.transitions.proofs.Checked.{enough, as_many, walkable}
+use Rattle.transitions.proofs.Checked.{rank_few, as_many, usable-of}
 use Rattle.transitions.proofs.Node.{open_step_lem}
 use Rattle.transitions.proofs.step.step_open.Goals as goal
 
 pub bounds-opened-hole : goal.bounds-opened-hole
 bounds-opened-hole c =
-    omega (arith, c.requires.1, c.well_formed.1.1.1.1.0.1.0.1, enough c.args.alphabet.now c.args.automaton.now c.args.links.now c.args.sets c.args.terminal.0 c.requires.0 (c.well_formed.1.1.1.1.0.1.0.1))
+    let l = c.args.linked.now in
+    omega (arith, rank_few _ _ l.alphabet_passes l.automaton_passes c.args.terminal.0)
 
 pub slice_bounds-opened-end : goal.slice_bounds-opened-end
 slice_bounds-opened-end c =
-    simp length-set (enough c.args.alphabet.now c.args.automaton.now c.args.links.now c.args.sets c.args.terminal.0 c.requires.0 (c.well_formed.1.1.1.1.0.1.0.1))
+    let l = c.args.linked.now in
+    simp length-set (omega (arith, rank_few _ _ l.alphabet_passes l.automaton_passes c.args.terminal.0))
 
 pub slice_bounds-walk-end : goal.slice_bounds-walk-end
 slice_bounds-walk-end c =
-    let opened-four : (x : ℕ) → length (set c.args.sets c.args.hole x) ≡ 4 = λ x. length-set c.args.sets c.args.hole x ∙ c.well_formed.1.1.1.1.0.1.0.1 in
-    sym (as_many c.args.alphabet.now c.args.automaton.now c.args.links.now _ c.args.terminal.0 c.requires.0 (opened-four _))
+    let l = c.args.linked.now in
+    let four : (x : ℕ) → length (set c.args.sets c.args.hole x) ≡ 4 = λ x. simp length-set (omega arith) in
+    sym (as_many _ _ l.alphabet_passes l.automaton_passes c.args.terminal.0 _ (four _))
 
 pub walk-requires : goal.walk-requires
 walk-requires c =
-    let opened-four : (x : ℕ) → length (set c.args.sets c.args.hole x) ≡ 4 = λ x. length-set c.args.sets c.args.hole x ∙ c.well_formed.1.1.1.1.0.1.0.1 in
-    walkable c.args.alphabet.now c.args.automaton.now c.args.links.now _ c.args.terminal.0 c.requires.0 (opened-four _)
+    let l = c.args.linked.now in
+    let four : (x : ℕ) → length (set c.args.sets c.args.hole x) ≡ 4 = λ x. simp length-set (omega arith) in
+    as_many _ _ l.alphabet_passes l.automaton_passes c.args.terminal.0 _ (four _)
 
 pub returns : goal.returns
 returns c =
-    let alphabet = c.args.alphabet.now in
-    let a = c.args.automaton.now in
-    let links = c.args.links.now in
+    let l = c.args.linked.now in
+    let a = l.automaton.now in
     let f = c.args.terminal.0 in
     let hole = c.args.hole in
-    let many = as_many alphabet a links c.args.sets f c.requires.0 (c.well_formed.1.1.1.1.0.1.0.1) in
-    c.walk.ensures ∙ ap (λ (ms : List ℕ). pairs_of a f ms hole) (take-set-lt (terminal_rank alphabet f) c.args.sets hole 255 c.requires.1)
-    ∙ open_step_lem alphabet a links (take (terminal_rank alphabet f) c.args.sets) f (sym many) (walkable alphabet a links c.args.sets f c.requires.0 (c.well_formed.1.1.1.1.0.1.0.1)) hole
+    let many = as_many _ _ l.alphabet_passes l.automaton_passes f c.args.sets (omega arith) in
+    c.walk.ensures ∙ ap (λ (ms : List ℕ). pairs_of a f ms hole) (take-set-lt (terminal_rank l.alphabet.now f) c.args.sets hole 255 c.requires.1)
+    ∙ open_step_lem _ a (take (terminal_rank l.alphabet.now f) c.args.sets) f (sym many) (usable-of _ _ l.alphabet_passes l.automaton_passes f _ many) hole
     (omega (arith, many, c.requires.1))

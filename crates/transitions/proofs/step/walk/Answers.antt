@@ -1,28 +1,45 @@
-use mathlib.Core.Path.{refl, sym, subst}
-use Prim.Native.Nat.{ℕ, ◌+◌, ◌-◌, ◌<◌}
-use native.Mathlib.Nat.{add-sub_cancel_left}
-use native.Mathlib.Omega.{arith}
-use lib.ListN.{get_or}
-use Rattle.terms.specs.Sheet.{transition_count}
-use Rattle.transition_links.specs.Links.{heads}
-use Rattle.transitions.proofs.Walking.{Walked, starts, goes_on}
+use mathlib.Core.Path.{ap, sym, ◌∙◌}
+use borrow.Author.Rules.{rules}
+use Rattle.terms.specs.Grammar.{terminal_rank}
+use Rattle.transitions.proofs.Walking.{starts, goes_on}
 use Rattle.transitions.proofs.step.walk.Goals as goal
 
 pub loop-i-init : goal.loop-i-init
-unfolding transition_count
 loop-i-init c =
-    let f = c.args.terminal.0 in
-    let first = c.requires.linked.head f (omega (arith, c.struct_known-1.given)) in (
-      refl,
-      subst (λ (g : ℕ). Walked c.args.automaton.now c.args.sets.now g c.args.hole 0 (get_or c.args.links.now (heads + f) 0)) (sym (add-sub_cancel_left heads f))
-          (starts c.args.automaton.now c.args.sets.now f c.args.hole (get_or c.args.links.now (heads + f) 0) first),
-    )
+    let (linked, terminal, first) = c.transitions_of-i-items.ensures in
+    let is = c.into_iter-i-iterator.ensures.into_iter_gives in
+    record {
+      can_next = search rules;
+      ends = search rules;
+      same = rw is linked;
+      terminal = rw is terminal;
+      found = rw is (starts _ c.args.sets.now c.args.terminal.0 c.args.hole _ first);
+    }
+
+pub pair_of-pairs-requires : goal.pair_of-pairs-requires
+pair_of-pairs-requires c =
+    let (linked, terminal, (at, below, first)) = c.in-Some.ensures.steps in
+    let i = c.loop-i.invariant in
+    let there = rw i.same at below in
+    rw at (there, c.requires ∙ ap (terminal_rank c.args.linked.now.alphabet.now) (sym (i.found.here there)))
 
 pub loop-i-preserved : goal.loop-i-preserved
 loop-i-preserved c =
-    let l = c.loop-i in
-    let h : l.i < transition_count c.args.automaton.now = omega arith in (
-      l.invariant.0,
-      goes_on c.args.automaton.now c.args.sets.now (heads + c.args.terminal.0 - heads) c.args.hole l.pairs c.pair_of-pairs.result l.i
-          (get_or c.args.links.now l.i 0) l.invariant.1 (l.invariant.1.here h) c.pair_of-pairs.ensures (c.requires.linked.next l.i h),
-    )
+    let (linked, terminal, (at, below, first)) = c.in-Some.ensures.steps in
+    let i = c.loop-i.invariant in
+    let there = rw i.same at below in
+    let pair = rw at at c.pair_of-pairs.ensures in
+    record {
+      can_next = search rules;
+      ends = search rules;
+      same = rw linked i.same;
+      terminal = terminal ∙ i.terminal;
+      found = goes_on _ c.args.sets.now c.args.terminal.0 c.args.hole c.loop-i.pairs c.pair_of-pairs.result c.loop-i.i-iterator.next _ i.found (i.found.here there) pair
+          (rw (i.same, i.terminal) at first);
+    }
+
+pub returns : goal.returns
+returns c =
+    let (linked, terminal, end) = c.in-None.ensures.steps in
+    let i = c.loop-i.invariant in
+    rw (end, i.same) at i.found.found

@@ -1,14 +1,13 @@
--- `transitions::step::walk` meets its contract. The loop's invariant: `pairs` has what the transitions before i lead between, and i is one of the terminal,
--- which is that of `head`, the place of its first link.
+-- `transitions::step::walk` meets its contract. The loop's invariant: `pairs` has what the transitions before the next one lead between.
 use mathlib.Core.Path.{◌≡◌}
-use Prim.Native.Nat.{◌-◌}
-use Rattle.terms.specs.Sheet.{transition_count}
-use Rattle.transition_links.specs.Links.{heads}
 use Rattle.transitions.proofs.Walking.{Walked}
 use Rattle.transitions.proofs.step.walk.Given as goal
 
 abbrev pub invariant-loop-i : goal.invariant-loop-i
-invariant-loop-i l = (l.count ≡ transition_count l.automaton) × Walked l.automaton l.sets (l.head - heads) l.hole l.pairs l.i
-
-abbrev pub decreases-loop-i : goal.decreases-loop-i
-decreases-loop-i l = transition_count l.automaton - l.i
+invariant-loop-i l = record {
+  can_next : (goal.iterator-loop-i).can_next l.i-iterator;
+  ends : (goal.iterator-loop-i).is_finite l.i-iterator;
+  same : l.i-iterator.linked.now ≡ l.linked;
+  terminal : l.i-iterator.terminal ≡ l.fn.terminal;
+  found : Walked l.linked.automaton.now l.sets l.fn.terminal.0 l.hole l.pairs l.i-iterator.next;
+}

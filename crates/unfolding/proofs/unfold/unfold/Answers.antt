@@ -1,72 +1,34 @@
--- `unfolding::unfold::unfold` meets its contract: what passes is parted and unfolded, with room for the counts of a small form or of the largest.
-use mathlib.Core.Path.{◌≡◌, sym, ◌∙◌}
-use Prim.Native.Nat.{◌*◌, ◌≤◌, ◌<◌}
-use native.Mathlib.Omega.{arith}
-use lib.ListN.{length}
-use Rattle.terms.specs.FormBytes.{table_count}
-use Rattle.terms.specs.Calls.{counts_per_rule, size_refusal}
-use Rattle.forms.specs.Private.Table.{ValidTable}
-use Rattle.forms.proofs.Rules.{head-long}
-use Rattle.sizing.proofs.Answers.{Sizable, size_passed, sizable_parts}
-use Rattle.unfolding.proofs.unfold.Call.{Outcome, unsized, start-unfolds}
-use Rattle.terms.specs.Answer.{refused, answer_of_length}
+-- `unfolding::unfold::unfold` meets its contract: what passes is unfolded, with room for the counts of a small form or of the largest.
+use Rattle.counting.proofs.Start.{opened-size, opened-counts}
+use Rattle.unfolding.proofs.unfold.Call.{start-refuses, opened-symbols}
 use Rattle.unfolding.proofs.unfold.unfold.Goals as goal
 
-pub returns-then-refusal-ne0 : goal.returns-then-refusal-ne0
-returns-then-refusal-ne0 c =
-    let a = c.args in
-    let all : Outcome a.alphabet.now a.form.now a.counts.now a.tree.now (refused c.check_size-refusal.result) a.counts.now a.tree.now = unsized _ _ _ _ _ c.check_size-refusal.ensures c.if-refusal-ne0.true in
-    record { answer = all.0; tree = all.1.0; counts = all.1.1 }
+pub returns-then-count-le-FEW_RULES-clause-answer : goal.returns-then-count-le-FEW_RULES-clause-answer
+returns-then-count-le-FEW_RULES-clause-answer c =
+    let o = c.in_ok-opened.ensures.parts.0 in
+    rw (start-refuses o _ _ c.in_ok-opened.ensures.refusal, ← opened-size o) c.unfold_with.ensures.answer
 
-pub table_of-table-requires : goal.table_of-table-requires
-table_of-table-requires c =
-    let none : let a = c.args in size_refusal a.alphabet.now a.form.now (length a.counts.now) ≡ 0 = sym c.check_size-refusal.ensures ∙ c.if-refusal-ne0.false in
-    let passes : let a = c.args in Sizable a.alphabet.now a.form.now (length a.counts.now) = size_passed _ _ _ none in
-    let p = passes in head-long _ _ p.ranked p.valid
+pub returns-then-count-le-FEW_RULES-clause-tree : goal.returns-then-count-le-FEW_RULES-clause-tree
+returns-then-count-le-FEW_RULES-clause-tree c =
+    let o = c.in_ok-opened.ensures.parts.0 in
+    rw (start-refuses o _ _ c.in_ok-opened.ensures.refusal, ← opened-symbols o) c.unfold_with.ensures.tree
 
-pub rule_count-rules-requires : goal.rule_count-rules-requires
-rule_count-rules-requires c =
-    let none : let a = c.args in size_refusal a.alphabet.now a.form.now (length a.counts.now) ≡ 0 = sym c.check_size-refusal.ensures ∙ c.if-refusal-ne0.false in
-    let passes : let a = c.args in Sizable a.alphabet.now a.form.now (length a.counts.now) = size_passed _ _ _ none in
-    let p = passes in head-long _ _ p.ranked p.valid
+pub returns-then-count-le-FEW_RULES-clause-counts : goal.returns-then-count-le-FEW_RULES-clause-counts
+returns-then-count-le-FEW_RULES-clause-counts c =
+    let o = c.in_ok-opened.ensures.parts.0 in
+    rw (start-refuses o _ _ c.in_ok-opened.ensures.refusal, ← opened-counts o) c.unfold_with.ensures.counts
 
-pub start_of-start-requires : goal.start_of-start-requires
-start_of-start-requires c =
-    let none : let a = c.args in size_refusal a.alphabet.now a.form.now (length a.counts.now) ≡ 0 = sym c.check_size-refusal.ensures ∙ c.if-refusal-ne0.false in
-    let passes : let a = c.args in Sizable a.alphabet.now a.form.now (length a.counts.now) = size_passed _ _ _ none in
-    let p = passes in head-long _ _ p.ranked p.valid
+pub returns-clause-answer : goal.returns-clause-answer
+returns-clause-answer c =
+    let o = c.in_ok-opened.ensures.parts.0 in
+    rw (start-refuses o _ _ c.in_ok-opened.ensures.refusal, ← opened-size o) c.unfold_with-2.ensures.answer
 
-pub unfold_with-requires : goal.unfold_with-requires
-unfold_with-requires c =
-    let none : let a = c.args in size_refusal a.alphabet.now a.form.now (length a.counts.now) ≡ 0 = sym c.check_size-refusal.ensures ∙ c.if-refusal-ne0.false in
-    let passes : let a = c.args in Sizable a.alphabet.now a.form.now (length a.counts.now) = size_passed _ _ _ none in
-    let table-known : let table = c.table_of-table.result.now in let rules = c.rule_count-rules.result in let a = c.args in ValidTable a.alphabet.now table × (rules ≡ table_count table) × (c.start_of-start.result.0 < rules) × (counts_per_rule * rules ≤ length a.counts.now) = sizable_parts passes _ _ _ c.table_of-table.ensures c.rule_count-rules.ensures.0 c.start_of-start.ensures in
-    let (v, n, low, room) = table-known in
-    let few = c.if-rules-le-FEW_RULES.true in
-    (v, n, low, room, omega arith)
+pub returns-clause-tree : goal.returns-clause-tree
+returns-clause-tree c =
+    let o = c.in_ok-opened.ensures.parts.0 in
+    rw (start-refuses o _ _ c.in_ok-opened.ensures.refusal, ← opened-symbols o) c.unfold_with-2.ensures.tree
 
-pub returns-then-rules-le-FEW_RULES : goal.returns-then-rules-le-FEW_RULES
-returns-then-rules-le-FEW_RULES c =
-    let none : let a = c.args in size_refusal a.alphabet.now a.form.now (length a.counts.now) ≡ 0 = sym c.check_size-refusal.ensures ∙ c.if-refusal-ne0.false in
-    let a = c.args in
-    let e = c.unfold_with.ensures in
-    let all : Outcome a.alphabet.now a.form.now a.counts.now a.tree.now (answer_of_length c.unfold_with.result) c.unfold_with.new.counts c.unfold_with.new.tree =
-    start-unfolds _ _ a.counts.now a.tree.now none _ c.table_of-table.ensures _ c.start_of-start.ensures _ _ _ (e.answer, (e.tree, e.counts)) in
-    record { answer = all.0; tree = all.1.0; counts = all.1.1 }
-
-pub unfold_with-requires-2 : goal.unfold_with-requires-2
-unfold_with-requires-2 c =
-    let none : let a = c.args in size_refusal a.alphabet.now a.form.now (length a.counts.now) ≡ 0 = sym c.check_size-refusal.ensures ∙ c.if-refusal-ne0.false in
-    let passes : let a = c.args in Sizable a.alphabet.now a.form.now (length a.counts.now) = size_passed _ _ _ none in
-    let table-known : let table = c.table_of-table.result.now in let rules = c.rule_count-rules.result in let a = c.args in ValidTable a.alphabet.now table × (rules ≡ table_count table) × (c.start_of-start.result.0 < rules) × (counts_per_rule * rules ≤ length a.counts.now) = sizable_parts passes _ _ _ c.table_of-table.ensures c.rule_count-rules.ensures.0 c.start_of-start.ensures in
-    let (v, n, low, room) = table-known in
-    (v, n, low, room, omega (arith, v.few, n))
-
-pub returns : goal.returns
-returns c =
-    let none : let a = c.args in size_refusal a.alphabet.now a.form.now (length a.counts.now) ≡ 0 = sym c.check_size-refusal.ensures ∙ c.if-refusal-ne0.false in
-    let a = c.args in
-    let e = c.unfold_with-2.ensures in
-    let all : Outcome a.alphabet.now a.form.now a.counts.now a.tree.now (answer_of_length c.unfold_with-2.result) c.unfold_with-2.new.counts c.unfold_with-2.new.tree =
-    start-unfolds _ _ a.counts.now a.tree.now none _ c.table_of-table.ensures _ c.start_of-start.ensures _ _ _ (e.answer, (e.tree, e.counts)) in
-    record { answer = all.0; tree = all.1.0; counts = all.1.1 }
+pub returns-clause-counts : goal.returns-clause-counts
+returns-clause-counts c =
+    let o = c.in_ok-opened.ensures.parts.0 in
+    rw (start-refuses o _ _ c.in_ok-opened.ensures.refusal, ← opened-counts o) c.unfold_with-2.ensures.counts

@@ -1,6 +1,6 @@
 -- The parts of a rule are lower rules, so three times its number falls, with one more for `write_rule`, which calls `write_slots` of the same rule, and two more
 -- for `write_part`, which calls `write_rule` of it.
-use Rattle.std.proofs.Common.{◌≡◌, ◌+◌, ◌-◌, ◌*◌, ◌≤◌, length}
+use Rattle.std.proofs.Common.{◌≡◌, ◌+◌, ◌*◌, ◌≤◌, length}
 use Rattle.std.proofs.lemmas.List.Edits.{sets}
 use Rattle.terms.specs.Form.{Slots}
 use Rattle.terms.specs.FormBytes.{slot_of, table_rules}
@@ -22,8 +22,8 @@ decreases-write_slots l = 3 * l.rule.0
 abbrev pub invariant-write_rule-loop-root : goal.invariant-write_rule-loop-root
 invariant-write_rule-loop-root l =
     (l.lower.0 ≤ l.fn.rule.0)
-    × RuleRoom l.alphabet.now l.table.now l.lower.0 l.place l.gap (length l.tree)
-    × (rule_written l.alphabet.now l.table.now l.lower.0 l.tree l.place l.gap ≡ rule_written l.alphabet.now l.table.now l.fn.rule.0 l.initial.tree l.at l.gap)
+    × RuleRoom l.counted.table.alphabet.now l.counted.table.bytes.now l.lower.0 l.place l.gap (length l.tree)
+    × (rule_written l.counted.table.alphabet.now l.counted.table.bytes.now l.lower.0 l.tree l.place l.gap ≡ rule_written l.counted.table.alphabet.now l.counted.table.bytes.now l.fn.rule.0 l.initial.tree l.at l.gap)
 
 abbrev pub decreases-write_rule-loop-root : goal.decreases-write_rule-loop-root
 decreases-write_rule-loop-root l = l.lower.0
@@ -31,9 +31,6 @@ decreases-write_rule-loop-root l = l.lower.0
 -- what was to be written into the tree at first is what is left to be written now
 abbrev pub invariant-write_slots-loop-j : goal.invariant-write_slots-loop-j
 invariant-write_slots-loop-j l =
-    Slots (table_rules l.alphabet.now l.table.now) l.rule.0 (slots_from (slot_of l.table.now l.rule.0) l.j l.to)
-    × (l.end + length (symbols_in l.alphabet.now l.table.now l.rule.0 l.j l.to) ≡ l.at + length (symbols_in l.alphabet.now l.table.now l.rule.0 l.from l.to))
-    × (sets l.tree l.end (symbols_in l.alphabet.now l.table.now l.rule.0 l.j l.to) ≡ sets l.initial.tree l.at (symbols_in l.alphabet.now l.table.now l.rule.0 l.from l.to))
-
-abbrev pub decreases-write_slots-loop-j : goal.decreases-write_slots-loop-j
-decreases-write_slots-loop-j l = l.to - l.j
+    Slots (table_rules l.counted.table.alphabet.now l.counted.table.bytes.now) l.rule.0 (slots_from (slot_of l.counted.table.bytes.now l.rule.0) l.j l.to)
+    × (l.end + length (symbols_in l.counted.table.alphabet.now l.counted.table.bytes.now l.rule.0 l.j l.to) ≡ l.at + length (symbols_in l.counted.table.alphabet.now l.counted.table.bytes.now l.rule.0 l.from l.to))
+    × (sets l.tree l.end (symbols_in l.counted.table.alphabet.now l.counted.table.bytes.now l.rule.0 l.j l.to) ≡ sets l.initial.tree l.at (symbols_in l.counted.table.alphabet.now l.counted.table.bytes.now l.rule.0 l.from l.to))

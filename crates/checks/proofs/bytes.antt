@@ -1,2 +1,0 @@
--- Laws of copies.
-pub mod Copied
