@@ -6,7 +6,7 @@ ghost use Rattle.terms.specs.FormBytes.{rule_count};
 ghost use Rattle.terms.specs.Answer.{refusal_of, answer_of, answer};
 ghost use Rattle.terms.specs.Calls.{opening_refusal};
 ghost use Rattle.opening.specs.Reading.{answer_of_rule, rule_reading};
-ghost use Rattle.opening.specs.Opening.{opened_reading, rules_found, reading_of};
+ghost use Rattle.opening.specs.Opening.{IsRuleOf, reading_of};
 
 use form_bytes::layout;
 use form_bytes::rule::{FormRule, rule_at};
@@ -30,19 +30,19 @@ pub fn check_and_count(alphabet: &[u8], form: &[u8]) -> Result<usize, Refusal>
     Ok(layout::rule_count(form))
 }
 
-// The rule of a number, of a form of which so many rules were found, or which was refused: 21 where the number is not below the rules or the rule does not stand
-// whole in the bytes.
-pub fn rule_of(
+// The rule of a number, of a form of which so many rules were found, or which was refused: the refusal is handed on as it is, and 21 is said where the number is not
+// below the rules or the rule does not stand whole in the bytes.
+pub fn rule_of<E: From<Refusal>>(
     form: &[u8],
-    opened: Result<usize, Refusal>,
+    opened: Result<usize, E>,
     number: Rule,
-) -> Result<FormRule, Refusal>
-    ensures { answer_of_rule result ≡ opened_reading form.now (rules_found opened) (refusal_of opened) number.0 }
+) -> Result<FormRule, E>
+    ensures { IsRuleOf E.from_gives form.now opened number.0 result }
 {
     let rules = opened?;
     let place = number.0 as usize;
     if rules <= place || form.len() < layout::form_length(layout::terminal_count(form), place + 1) {
-        return Err(Refusal::NoPlace);
+        return Err(E::from(Refusal::NoPlace));
     }
     Ok(rule_at(layout::table_of(form), number))
 }

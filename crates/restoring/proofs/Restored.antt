@@ -9,6 +9,7 @@ use Rattle.terms.specs.Tree.{preorder}
 use Rattle.terms.specs.Sheet.{alphabet_of, sheet_tree}
 use Rattle.terms.specs.Check.{sheet_refusal}
 use Rattle.terms.specs.FormBytes.{rule_count, form_tree}
+use Rattle.terms.specs.declared.refusals.Refusal.{Refusal}
 use Rattle.terms.specs.Answer.{Answer, refused, answered, answer_of}
 use Rattle.terms.specs.Calls.{form_asked, counts_per_rule, unfolding_refusal}
 use Rattle.terms.specs.Demand.{FormOfSheet, Demand3}
@@ -27,7 +28,7 @@ pub record SheetOf (sheet alphabet tree : List ℕ) : Type 0 where
   pub alphabet-given : alphabet_of sheet ≡ alphabet
   pub tree-given : preorder (sheet_tree sheet) ≡ tree
 
-module _ (alphabet sheet tree : List ℕ) (is : SheetOf sheet alphabet tree) (r : Restoring) (lent left : RestoringSlices)
+module _ (alphabet sheet tree : List ℕ) (is : SheetOf sheet alphabet tree) (r : Restoring Refusal) (lent left : RestoringSlices)
     (room : form_asked sheet ≤ length lent.form) where
   size : length (preorder (sheet_tree sheet)) ≡ length tree
   size = ap length is.tree-given
@@ -67,7 +68,7 @@ module _ (alphabet sheet tree : List ℕ) (is : SheetOf sheet alphabet tree) (r 
       by_answer (answer_of r.made) refl m c.unfolds
 
 -- where n is what writing the sheet is refused by
-pub calls_restore : (alphabet : List ℕ) (n : ℕ) (sheet tree : List ℕ) → (n ≡ 0 → SheetOf sheet alphabet tree) → (r : Restoring) (lent left : RestoringSlices)
+pub calls_restore : (alphabet : List ℕ) (n : ℕ) (sheet tree : List ℕ) → (n ≡ 0 → SheetOf sheet alphabet tree) → (r : Restoring Refusal) (lent left : RestoringSlices)
     → RestoringCalls alphabet n sheet r lent left → Restored n sheet tree r lent left
 calls_restore alphabet n sheet tree is r lent left c e room =
     by_calls alphabet sheet tree (is e) r lent left room (subst (λ (k : ℕ). RestoringCalls alphabet k sheet r lent left) e c)

@@ -10,6 +10,7 @@ use Rattle.practice_terms.specs.Described.{practice_tree}
 use Rattle.practice_terms.specs.Claims.{PracticeRight}
 use Rattle.practice_terms.proofs.Sheet.{written_right}
 use Rattle.restoring.specs.Restore.{RestoringCalls}
+use Rattle.restoring.proofs.Errors.{made-refusals, unfolded-refusals}
 use Rattle.restoring.proofs.Restored.{SheetOf, calls_restore}
 use Rattle.restoring.proofs.practice.restore_practice.Goals as goal
 
@@ -24,6 +25,6 @@ returns c =
     let calls : RestoringCalls _ _ _ _ _ _ = record {
       answers = ap answer_of told.written_value ∙ c.practice-written.ensures.result_value;
       writes = c.practice-written.ensures.sheet_after;
-      makes = told.made_from;
-      unfolds = told.unfolded_from;
+      makes = made-refusals _ _ _ _ _ told.made_from;
+      unfolds = unfolded-refusals _ _ _ _ _ _ _ _ told.unfolded_from;
     } in record { calls = calls; demand = calls_restore _ _ _ _ (λ e. practice-is (written_right given.first given.m given.automaton.now (length given.sheet.now) e)) _ _ _ calls }

@@ -7,6 +7,7 @@ use Rattle.terms.specs.Answer.{answer_of}
 use Rattle.terms.specs.Sheet.{wrapped}
 use Rattle.terms.proofs.Sheet.Wrap.{Wrapped, wrap_right}
 use Rattle.restoring.specs.Restore.{RestoringCalls}
+use Rattle.restoring.proofs.Errors.{made-refusals, unfolded-refusals}
 use Rattle.restoring.proofs.Restored.{SheetOf, calls_restore}
 use Rattle.restoring.proofs.restore.restore.Goals as goal
 
@@ -21,6 +22,6 @@ returns c =
     let calls : RestoringCalls _ _ _ _ _ _ = record {
       answers = ap answer_of told.written_value ∙ c.wrap-written.ensures.result_value;
       writes = c.wrap-written.ensures.sheet_after;
-      makes = told.made_from;
-      unfolds = told.unfolded_from;
+      makes = made-refusals _ _ _ _ _ told.made_from;
+      unfolds = unfolded-refusals _ _ _ _ _ _ _ _ told.unfolded_from;
     } in record { calls = calls; demand = calls_restore _ _ _ _ (λ e. wrapped-is (wrap_right given.alphabet.now given.tree.now given.automaton.now (length given.sheet.now) e)) _ _ _ calls }
