@@ -19,6 +19,13 @@ impl Generator {
         ensures draw { result ≡ Draw·draw (Draw·next self.old.x) }
     {
         self.x = self.x.wrapping_mul(MULTIPLIER).wrapping_add(INCREMENT);
-        self.x / 65536
+        draw(self.x)
     }
+}
+
+// The draw of a number that a step has led to.
+pub fn draw(x: u32) -> u32
+    ensures { result ≡ Draw·draw x }
+{
+    x / 65536
 }

@@ -8,7 +8,7 @@ ghost use Rattle.transition_links.specs.Links.{First, Linked, GivesNext};
 use terms::Terminal;
 
 // Where the first transitions stand in the links, behind those of the transitions.
-const HEADS: usize = 255;
+pub const HEADS: usize = 255;
 
 // An automaton and its alphabet, which pass their checks, with the transitions linked by terminal.
 #[derive(Drop)]
@@ -80,7 +80,7 @@ impl<'a> Iterator for TransitionsOf<'a> {
 }
 
 // The links, from the last transition to the first: each leads to what was the first of its terminal, and is the first now.
-fn link_transitions(automaton: &[u8]) -> [u8; 511]
+pub fn link_transitions(automaton: &[u8]) -> [u8; 511]
     requires { (2 ≤ length automaton.now) × (transition_count automaton.now ≤ most_transitions) }
     ensures { Linked automaton.now result }
 {
