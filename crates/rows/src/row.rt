@@ -87,11 +87,13 @@ fn repeat(bytes: &mut [u8], start: usize, end: usize, times: usize) -> Option<us
     }
     let length = end - start;
     let stop = start.saturating_add(length.saturating_mul(times.max(1)));
+    // Where there is no room for all of them, the bytes are written as far as there is: a star behind them goes back to the start, and a half byte there moves up
+    // what stands in its place.
+    for place in end..stop.min(bytes.len()) {
+        bytes[place] = bytes[place - length];
+    }
     if bytes.len() <= stop {
         return None;
-    }
-    for place in end..stop {
-        bytes[place] = bytes[place - length];
     }
     Some(stop)
 }
