@@ -40,6 +40,8 @@ pub fn read_bytes(input: &mut impl Read, bytes: &mut [u8]) -> io::Result<Option<
 {
     for (i, byte) in bytes.iter_mut().enumerate() {
         let Some(high) = next_sign(input)? else {
+            // The byte behind too many spaces is read too, as it is behind any sign that is no digit.
+            next_byte(input)?;
             return Ok(None);
         };
         if high == 0 {
