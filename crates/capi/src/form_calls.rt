@@ -95,8 +95,6 @@ pub extern "C" fn ewf_label(
     ensures counts { counts.new ≡ lent_after (label_refusal alphabet.now form.now position (length counts.old)) (counts_of alphabet.now form.now) counts.old }
     ensures terminal { terminal.new ≡ result_after (label_refusal alphabet.now form.now position (length counts.old)) (label_at alphabet.now form.now position) terminal.old }
 {
-    hand_out(
-        label(alphabet, form, position, counts).map(|found| found.0),
-        terminal,
-    )
+    let found = label(alphabet, form, position, counts).map(|found| found.0);
+    hand_out(found, terminal)
 }

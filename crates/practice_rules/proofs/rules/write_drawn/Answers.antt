@@ -10,7 +10,4 @@ returns-then-even c =
     even_drawn kind.number kind.draw second.number second.draw c.call-j.ensures c.if-even.true third.number third.draw c.call-k.ensures c.copy_at.ensures
 
 pub returns : goal.returns
-returns c =
-    let kind = c.draw.ensures in
-    let second = c.draw-2.ensures in
-    odd_drawn kind.number kind.draw second.number second.draw c.call-j.ensures c.if-even.false c.copy_at-2.ensures
+returns c = odd_drawn c.draw.ensures.number c.draw.ensures.draw c.draw-2.ensures.number c.draw-2.ensures.draw c.call-j.ensures c.if-even.false c.copy_at-2.ensures
